@@ -1,0 +1,4 @@
+pub mod Turns
+pub mod Stops
+pub mod Endings
+pub mod Complete

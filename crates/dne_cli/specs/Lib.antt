@@ -1,0 +1,4 @@
+pub mod Kept
+pub mod Transcript
+pub mod Words
+pub mod Reached

@@ -1,0 +1,4 @@
+pub mod FidText
+pub mod Places
+pub mod FidReading
+pub mod Targets

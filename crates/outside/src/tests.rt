@@ -1,0 +1,120 @@
+use crate::{
+    Disk, DiskFault, NoDisk, Plant, Sink, SinkFault, Source, SourceFault, StreamSink, StreamSource,
+    TextSink, TextSource, put_all,
+};
+use std::io::{self, ErrorKind, Read, Write};
+use std::test::Fail;
+
+/// A reader and a writer that fail.
+#[derive(Drop)]
+struct Broken;
+
+impl Read for Broken {
+    fn read(&mut self, _buf: &mut [u8]) -> io::Result<usize> {
+        Err(io::Error::from(ErrorKind::Other))
+    }
+}
+
+impl Write for Broken {
+    fn write(&mut self, _buf: &[u8]) -> io::Result<usize> {
+        Err(io::Error::from(ErrorKind::Interrupted))
+    }
+
+    fn flush(&mut self) -> io::Result<()> {
+        Ok(())
+    }
+}
+
+/// A writer that takes nothing.
+#[derive(Drop)]
+struct Full;
+
+impl Write for Full {
+    fn write(&mut self, _buf: &[u8]) -> io::Result<usize> {
+        Ok(0)
+    }
+
+    fn flush(&mut self) -> io::Result<()> {
+        Ok(())
+    }
+}
+
+#[test]
+fn text_in_pieces(rt: HostRuntime) -> Result<(), Fail> {
+    let mut source = TextSource::new(rt.alloc(), b"abcde", &[2])?;
+    let mut into = [0u8; 3];
+    assert_eq!(rt; source.read(&mut into), Ok(3));
+    assert_eq!(rt; &into, b"abc");
+    assert_eq!(rt; source.read(&mut into), Err(SourceFault::Failed));
+    assert_eq!(rt; source.faults(), 1);
+    assert_eq!(rt; source.read(&mut into), Ok(2));
+    assert_eq!(rt; &into[..2], b"de".as_slice());
+    assert_eq!(rt; source.read(&mut into), Ok(0));
+    assert_eq!(rt; source.faults(), 1);
+    Ok(())
+}
+
+#[test]
+fn first_write_fails(rt: HostRuntime) -> Result<(), Fail> {
+    let mut sink = TextSink::new(rt.alloc(), &[1])?;
+    assert_eq!(rt; sink.write(b"ab"), Err(SinkFault::Failed));
+    assert_eq!(rt; (sink.faults(), sink.refused()), (1, 0));
+    assert_eq!(rt; sink.write(b"cd"), Ok(2));
+    assert_eq!(rt; sink.bytes(), b"cd".as_slice());
+    Ok(())
+}
+
+#[test]
+fn puts_all(rt: HostRuntime) -> Result<(), Fail> {
+    let mut sink = TextSink::new(rt.alloc(), &[2])?;
+    assert_eq!(rt; put_all(&mut sink, b"abc"), Ok(()));
+    assert_eq!(rt; put_all(&mut sink, b"de"), Err(SinkFault::Failed));
+    assert_eq!(rt; sink.bytes(), b"abc".as_slice());
+    assert_eq!(rt; (sink.faults(), sink.refused()), (1, 0));
+    Ok(())
+}
+
+#[test]
+fn streams_read(rt: HostRuntime) -> Result<(), Fail> {
+    let text: &[u8] = b"abc";
+    let mut source = StreamSource::new(text);
+    let mut into = [0u8; 2];
+    assert_eq!(rt; source.read(&mut into), Ok(2));
+    assert_eq!(rt; &into, b"ab");
+    assert_eq!(rt; source.faults(), 0);
+    let mut broken = StreamSource::new(Broken);
+    assert_eq!(rt; broken.read(&mut into), Err(SourceFault::Failed));
+    assert_eq!(rt; broken.faults(), 1);
+    Ok(())
+}
+
+#[test]
+fn streams_write(rt: HostRuntime) -> Result<(), Fail> {
+    let mut bytes = Vec::new(rt.alloc());
+    let mut sink = StreamSink::new(&mut bytes);
+    assert_eq!(rt; put_all(&mut sink, b"abc"), Ok(()));
+    assert_eq!(rt; sink.faults(), 0);
+    assert_eq!(rt; bytes.as_slice(), b"abc".as_slice());
+    let mut broken = StreamSink::new(Broken);
+    assert_eq!(rt; broken.write(b"a"), Err(SinkFault::Failed));
+    assert_eq!(rt; broken.faults(), 1);
+    let mut full = StreamSink::new(Full);
+    assert_eq!(rt; full.write(b"a"), Err(SinkFault::Failed));
+    assert_eq!(rt; full.faults(), 1);
+    assert_eq!(rt; full.write(b""), Ok(0));
+    assert_eq!(rt; full.faults(), 1);
+    Ok(())
+}
+
+#[test]
+fn no_disk_fails(rt: HostRuntime) {
+    let mut disk = NoDisk::new();
+    let mut into = [7u8];
+    disk.arm(3, 1);
+    assert_eq!(rt; (disk.faults(), disk.len()), (0, 67_108_864));
+    assert_eq!(rt; disk.read_at(0, &mut into), Err(DiskFault::Failed));
+    assert_eq!(rt; disk.write_at(0, &into), Err(DiskFault::Failed));
+    assert_eq!(rt; disk.sync(), Err(DiskFault::Failed));
+    assert_eq!(rt; disk.power_cycle(), Err(DiskFault::Failed));
+    assert_eq!(rt; (disk.faults(), into[0]), (4, 7));
+}

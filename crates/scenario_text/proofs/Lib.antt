@@ -1,0 +1,7 @@
+pub mod OneSpelling
+pub mod Parsed
+pub mod Members
+pub mod Runs
+pub mod MachineLaws
+pub mod Worked
+pub mod OneLine

@@ -1,0 +1,114 @@
+-- Laws of the machine: its history is legal, and it accepts each number once.
+use Rattle.std.proofs.Common.{◌≡◌, ◌≢◌, ℕ, Option, Some, None, IsSome, unwrap_or, List, [], ◌∷◌, ◌++◌, map, refl, sym, ap, ◌∙◌, subst, append_assoc, append-nil}
+use Rattle.std.specs.List.{AllByRecursion}
+use Rattle.tree_model.specs.Tree.{Tree, base}
+use Rattle.tree_model.specs.Step.{step}
+use Rattle.tree_model.specs.History.{Item, IsLegal, IsLegalFrom}
+use Rattle.tree_model.specs.declared.op.Request.{Request}
+use Rattle.tree_model.proofs.Histories.{legal_from-push}
+use Rattle.scenario_text.specs.declared.line.Line.{Line}
+use Rattle.scenario_text.specs.declared.line.Line.TheVariants as lines
+use Rattle.scenario_text.specs.declared.command.Command.{Command}
+use Rattle.scenario_text.specs.declared.command.Command.TheVariants as commands
+use Rattle.scenario_text.specs.Machine.{Asked, State, Group, IsTaken, IsNew, IsGroup, Says, SaysAll, Run, AreTaken, asked_after, asked_all, commands_of, lines_of, nothing_asked, start, targets_of}
+use Rattle.scenario_text.specs.Worked.{accepted, AreApart}
+use Rattle.scenario_text.proofs.Runs.{says_all_asked, run_taken, run_asked}
+
+new_numbers : (n : ℕ) (h : List Item) (r : Request) → IsNew n h r → AllByRecursion (λ j. j.request.number ≢ r.number) h
+new_numbers n [] r new = tt
+new_numbers n (j ∷ h) r new = (new.0.0, new_numbers n h r new.1)
+
+abbrev Legal : State → Type 0
+Legal s = IsLegal (targets_of s) s.history
+
+says_legal : (s : State) (l : Line) (others : List Line) (t : State) → Says s l others t → Legal s → Legal t
+says_legal s (lines.Accept number reply on) others t h legal =
+    subst Legal (sym h.7) (legal_from-push (targets_of s) base s.history (record { request = h.0; reply = reply }) legal h.4 (new_numbers (targets_of s) s.history h.0 h.3))
+says_legal s (lines.Reply number reply) others t h legal = subst Legal (sym h.4) legal
+says_legal s (lines.Tree grown) others t h legal = subst Legal (sym h.1) legal
+says_legal s lines.EndClean others t h legal = subst Legal (sym h) legal
+
+says_all_legal : (ls : List Line) (s t : State) → SaysAll s ls t → Legal s → Legal t
+says_all_legal [] s t h legal = subst Legal (sym h) legal
+says_all_legal (l ∷ ls) s t h legal = says_all_legal ls h.0 t h.2 (says_legal s l ls h.0 h.1 legal)
+
+-- before there is a cluster nothing was accepted
+abbrev Sound : State → Type 0
+Sound s = (s.asked.cluster ≡ None → s.history ≡ []) × Legal s
+
+has_cluster : (c : Option ℕ) (h : List Item) → IsSome c → c ≡ None → h ≡ []
+has_cluster None h some e = cc
+has_cluster (Some n) h some e = cc
+
+-- what was accepted, and for which cluster, is what matters
+sound_as : (s : State) (c : Option ℕ) → Sound s → c ≡ s.asked.cluster → (c ≡ None → s.history ≡ []) × IsLegal (unwrap_or c 0) s.history
+sound_as s c sound e = subst (λ x. (x ≡ None → s.history ≡ []) × IsLegal (unwrap_or x 0) s.history) (sym e) sound
+
+open_sound : (s : State) (a : Asked) (ls : List Line) (t : State) → IsSome a.cluster → a.cluster ≡ s.asked.cluster → SaysAll (record s { asked = a }) ls t → Sound s → Sound t
+open_sound s a ls t some e says sound =
+    let asked : t.asked ≡ a = says_all_asked ls (record s { asked = a }) t says in
+    (λ none. has_cluster a.cluster t.history some (sym (ap (λ (x : Asked). x.cluster) asked) ∙ none), says_all_legal ls (record s { asked = a }) t says (sound_as s a.cluster sound e).1)
+
+turn_sound_of : (s : State) (c : Command) (ls : List Line) (t : State) → IsTaken s.asked c → IsGroup c ls → SaysAll (record s { asked = asked_after s.asked c }) ls t → Sound s → Sound t
+turn_sound_of s (commands.Cluster n) ls t taken group says sound =
+    let e : t ≡ record s { asked = record s.asked { cluster = Some n } } = subst (λ l. SaysAll (record s { asked = record s.asked { cluster = Some n } }) l t) group says in
+    subst Sound (sym e) (λ none. cc, subst (λ h. IsLegal n h) (sym (sound.0 taken.1)) tt)
+turn_sound_of s (commands.Send r) ls t taken group says sound = open_sound s (asked_after s.asked (commands.Send r)) ls t taken.1.0.0 refl says sound
+turn_sound_of s commands.Settle ls t taken group says sound = open_sound s s.asked ls t taken.1.0 refl says sound
+turn_sound_of s commands.Tree ls t taken group says sound = open_sound s s.asked ls t taken.1.0 refl says sound
+turn_sound_of s commands.End ls t taken group says sound = open_sound s (asked_after s.asked commands.End) ls t taken.1.0 refl says sound
+
+run_sound : (gs : List Group) (s t : State) → Run s gs t → Sound s → Sound t
+run_sound [] s t h sound = subst Sound (sym h) sound
+run_sound (g ∷ gs) s t h sound = run_sound gs h.0 t h.2 (turn_sound_of s g.command g.lines h.0 h.1.0 h.1.1 h.1.2 sound)
+
+pub legal_history : (gs : List Group) (t : State) → Run start gs t → IsLegal (targets_of t) t.history
+legal_history gs t run = (run_sound gs start t run (λ none. refl, tt)).1
+
+-- the numbers of a history, in order
+abbrev numbers : List Item → List ℕ
+numbers h = map (λ i. i.request.number) h
+
+numbers-push : (h : List Item) (i : Item) → numbers (h ++ i ∷ []) ≡ numbers h ++ i.request.number ∷ []
+numbers-push [] i = refl
+numbers-push (j ∷ h) i = ap (λ l. j.request.number ∷ l) (numbers-push h i)
+
+other_numbers : (h : List Item) (n : ℕ) → AllByRecursion (λ later. later.request.number ≢ n) h → AllByRecursion (λ m. m ≢ n) (numbers h)
+other_numbers [] n all = tt
+other_numbers (j ∷ h) n all = (all.0, other_numbers h n all.1)
+
+numbers_apart : (n : ℕ) (t : Tree) (h : List Item) → IsLegalFrom n t h → AreApart (numbers h)
+numbers_apart n t [] legal = tt
+numbers_apart n t (j ∷ h) legal = (other_numbers h j.request.number legal.1, numbers_apart n (step n t j.request.op).0 h legal.2)
+
+accepted-append : (a b : List Line) → accepted (a ++ b) ≡ accepted a ++ accepted b
+accepted-append [] b = refl
+accepted-append (lines.Accept number reply on ∷ a) b = ap (λ l. number ∷ l) (accepted-append a b)
+accepted-append (lines.Reply number reply ∷ a) b = accepted-append a b
+accepted-append (lines.Tree grown ∷ a) b = accepted-append a b
+accepted-append (lines.EndClean ∷ a) b = accepted-append a b
+
+says_numbers : (s : State) (l : Line) (others : List Line) (t : State) → Says s l others t → numbers t.history ≡ numbers s.history ++ accepted (l ∷ [])
+says_numbers s (lines.Accept number reply on) others t h =
+    ap (λ (x : State). numbers x.history) h.7 ∙ numbers-push s.history (record { request = h.0; reply = reply }) ∙ ap (λ n. numbers s.history ++ n ∷ []) h.2
+says_numbers s (lines.Reply number reply) others t h = ap (λ (x : State). numbers x.history) h.4 ∙ sym (append-nil (numbers s.history))
+says_numbers s (lines.Tree grown) others t h = ap (λ (x : State). numbers x.history) h.1 ∙ sym (append-nil (numbers s.history))
+says_numbers s lines.EndClean others t h = ap (λ (x : State). numbers x.history) h ∙ sym (append-nil (numbers s.history))
+
+says_all_numbers : (ls : List Line) (s t : State) → SaysAll s ls t → numbers t.history ≡ numbers s.history ++ accepted ls
+says_all_numbers [] s t h = ap (λ (x : State). numbers x.history) h ∙ sym (append-nil (numbers s.history))
+says_all_numbers (l ∷ ls) s t h =
+    says_all_numbers ls h.0 t h.2 ∙ ap (λ n. n ++ accepted ls) (says_numbers s l ls h.0 h.1)
+    ∙ append_assoc (numbers s.history) (accepted (l ∷ [])) (accepted ls) ∙ ap (λ n. numbers s.history ++ n) (sym (accepted-append (l ∷ []) ls))
+
+run_numbers : (gs : List Group) (s t : State) → Run s gs t → numbers t.history ≡ numbers s.history ++ accepted (lines_of gs)
+run_numbers [] s t h = ap (λ (x : State). numbers x.history) h ∙ sym (append-nil (numbers s.history))
+run_numbers (g ∷ gs) s t h =
+    run_numbers gs h.0 t h.2 ∙ ap (λ n. n ++ accepted (lines_of gs)) (says_all_numbers g.lines (record s { asked = asked_after s.asked g.command }) h.0 h.1.2)
+    ∙ append_assoc (numbers s.history) (accepted g.lines) (accepted (lines_of gs)) ∙ ap (λ n. numbers s.history ++ n) (sym (accepted-append g.lines (lines_of gs)))
+
+pub accepted_once : (gs : List Group) (t : State) → Run start gs t → AreApart (accepted (lines_of gs))
+accepted_once gs t run = subst AreApart (run_numbers gs start t run) (numbers_apart (targets_of t) base t.history (legal_history gs t run))
+
+pub in_order : (gs : List Group) (t : State) → Run start gs t → AreTaken nothing_asked (commands_of gs) × (t.asked ≡ asked_all nothing_asked (commands_of gs))
+in_order gs t run = (run_taken gs start t run, run_asked gs start t run)

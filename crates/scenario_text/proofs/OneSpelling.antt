@@ -1,0 +1,57 @@
+-- No two commands have one spelling.
+use Rattle.std.proofs.Common.{◌≡◌, ◌==◌, ◌<◌, ◌≤◌, ◌^◌, ℕ, Option, Some, None, [], ◌∷◌, codes, refl, sym, ap, ◌∙◌, arith}
+use Rattle.std.specs.List.{slice_split, AllByRecursion}
+use Rattle.std.specs.Fmt.{decimal}
+use Rattle.std.proofs.lemmas.Fmt.{decimal_is_IsNumeral, decimal_injective}
+use Rattle.fid_space.proofs.Splitting.{Lacks, lacks_by_test, lacks_digits, split_join}
+use Rattle.tree_model.specs.OpText.{op_words, IsOp}
+use Rattle.tree_model.specs.declared.op.Request.{Request}
+use Rattle.tree_model.proofs.OpTexts.{op_lacks, op_injective}
+use Rattle.scenario_text.specs.Spelling.{IsCommand, IsRequest, spelling, words_of}
+use Rattle.scenario_text.specs.declared.command.Command.{Command}
+use Rattle.scenario_text.specs.declared.command.Command.TheVariants as commands
+
+-- the request's limits, in whichever cluster it is read
+pub limits : (cluster : Option ℕ) (r : Request) → IsRequest cluster r → (n : ℕ) × (1 ≤ r.number) × (r.number ≤ 65536) × (r.client < 64) × IsOp n r.op
+limits None r h = absurd h
+limits (Some n) r h = (n, h.0, h.1, h.2, h.3)
+
+digits_lack : (n : ℕ) → n < 2 ^ 64 → Lacks 32 (decimal n)
+digits_lack n low = lacks_digits 10 32 (omega arith) (decimal n) (decimal_is_IsNumeral n low).0.1
+
+words_lack : (a : Option ℕ) (c : Command) → IsCommand a c → AllByRecursion (λ w. Lacks 32 w) (words_of c)
+words_lack a (commands.Cluster n) h = (lacks_by_test 32 (codes "cluster") refl, (digits_lack n (omega (arith, h)), tt))
+words_lack a (commands.Send r) h =
+    let l = limits a r h in
+    (lacks_by_test 32 (codes "send") refl, (digits_lack r.number (omega (arith, l.2)), (digits_lack r.client (omega (arith, l.3)), op_lacks l.0 r.op l.4)))
+words_lack a commands.Settle h = (lacks_by_test 32 (codes "settle") refl, tt)
+words_lack a commands.Tree h = (lacks_by_test 32 (codes "tree") refl, tt)
+words_lack a commands.End h = (lacks_by_test 32 (codes "end") refl, tt)
+
+-- the words of a spelling are the command's
+pub cut_words : (a : Option ℕ) (c : Command) → IsCommand a c → slice_split (λ x. x == 32) (spelling c) ≡ words_of c
+cut_words a (commands.Cluster n) h = split_join 32 (codes "cluster") (decimal n ∷ []) (words_lack a (commands.Cluster n) h)
+cut_words a (commands.Send r) h = split_join 32 (codes "send") (decimal r.number ∷ decimal r.client ∷ op_words r.op) (words_lack a (commands.Send r) h)
+cut_words a commands.Settle h = split_join 32 (codes "settle") [] (words_lack a commands.Settle h)
+cut_words a commands.Tree h = split_join 32 (codes "tree") [] (words_lack a commands.Tree h)
+cut_words a commands.End h = split_join 32 (codes "end") [] (words_lack a commands.End h)
+
+words_injective : (a b : Option ℕ) (c d : Command) → IsCommand a c → IsCommand b d → words_of c ≡ words_of d → c ≡ d
+words_injective a b (commands.Send r) (commands.Send s) h k e =
+    let numbers : decimal r.number ≡ decimal s.number = cc in
+    let clients : decimal r.client ≡ decimal s.client = cc in
+    let ops : op_words r.op ≡ op_words s.op = cc in
+    let l = limits a r h in
+    let m = limits b s k in
+    let number = decimal_injective r.number s.number (omega (arith, l.2)) (omega (arith, m.2)) numbers in
+    let client = decimal_injective r.client s.client (omega (arith, l.3)) (omega (arith, m.3)) clients in
+    let op = op_injective l.0 m.0 r.op s.op l.4 m.4 ops in
+    λ i. commands.Send (record { number = number i; client = client i; op = op i })
+words_injective a b (commands.Cluster m) (commands.Cluster n) h k e = ap commands.Cluster (h ∙ sym k)
+words_injective a b commands.Settle commands.Settle h k e = refl
+words_injective a b commands.Tree commands.Tree h k e = refl
+words_injective a b commands.End commands.End h k e = refl
+words_injective a b c d h k e = cc
+
+pub one_command : (a b : Option ℕ) (c d : Command) → IsCommand a c → IsCommand b d → spelling c ≡ spelling d → c ≡ d
+one_command a b c d p q e = words_injective a b c d p q (sym (cut_words a c p) ∙ ap (slice_split (λ x. x == 32)) e ∙ cut_words b d q)

@@ -1,0 +1,187 @@
+-- Two scenarios through the definitions, down to the bytes.
+use Rattle.std.proofs.Common.{◌≡◌, ◌≢◌, cond, true, false, Some, None, List, [], ◌∷◌, ◌++◌, length, codes, inl, IsSome, refl, sym, ap, ◌∙◌, arith}
+use Rattle.std.specs.declared.cmp.Ordering.{Ordering}
+use Rattle.std.specs.Ordering.{eq_by_cmp}
+use Rattle.std.specs.List.{flat_map}
+use Rattle.std.specs.Fmt.{digits}
+use Rattle.std.specs.FinMap.{entries, empty, get, len, put, get-empty, get-insert, entries-insert, len-entries, len-empty}
+use Rattle.std.proofs.lemmas.List.Elements.{All-cons, All-nil}
+use Rattle.fid_space.specs.declared.fid.Fid.{Fid}
+use Rattle.tree_model.specs.declared.plain_tree.Node.{Node}
+use Rattle.tree_model.specs.declared.plain_tree.EntryKey.{EntryKey}
+use Rattle.tree_model.specs.declared.op.Op.{Op}
+use Rattle.tree_model.specs.declared.op.Op.TheVariants.{Create}
+use Rattle.tree_model.specs.declared.op.Request.{Request}
+use Rattle.tree_model.specs.declared.reply.Reply.{Reply}
+use Rattle.tree_model.specs.declared.reply.Reply.TheVariants as replies
+use Rattle.tree_model.specs.Tree.{Tree, base, fid_cmp, entry_cmp, entry_key, root_fid, root_node, file_node}
+use Rattle.tree_model.specs.Step.{step, first_fault, client_fault, parent_fault, taken_fault, create_fault, checked, added}
+use Rattle.tree_model.specs.History.{Item, tree_of}
+use Rattle.tree_model.specs.Participants.{participants}
+use Rattle.tree_model.specs.OpText.{IsPlaced, IsPlainName}
+use Rattle.tree_model.specs.TreeText.{tree_text, tree_head, node_text, entry_text}
+use Rattle.tree_model.proofs.Maps.{fids_total, entries_total}
+use Rattle.scenario_text.specs.declared.command.Command.TheVariants as commands
+use Rattle.scenario_text.specs.declared.line.Line.TheVariants as lines
+use Rattle.scenario_text.specs.LineText.{members}
+use Rattle.scenario_text.specs.Machine.{State, Group, Turn, Run, start, targets_of, commands_of, scenario, transcript}
+use Rattle.scenario_text.specs.Worked.{IsTranscript}
+
+none_of_length : {A : Type 0} (es : List A) → length es ≡ 0 → es ≡ []
+none_of_length [] e = refl
+none_of_length (x ∷ es) e = absurd (omega arith)
+
+entries_empty : {K X : Type 0} (R : K → K → Ordering) → entries (empty {X = X} {R = R}) ≡ []
+entries_empty {X = X} R = none_of_length _ (sym (len-entries (empty {X = X} {R = R})) ∙ len-empty R X)
+
+-- the text of a tree with these entries
+text_of : (t : Tree) (nodes : List (Fid × Node)) (names : List (EntryKey × Fid)) → entries t.nodes ≡ nodes → entries t.entries ≡ names
+    → tree_text t ≡ tree_head (length nodes) (length names) ++ (flat_map node_text nodes ++ flat_map entry_text names)
+unfolding tree_text
+text_of t nodes names e f =
+    let m : len t.nodes ≡ length nodes = len-entries t.nodes ∙ ap length e in
+    let n : len t.entries ≡ length names = len-entries t.entries ∙ ap length f in
+    λ i. tree_head (m i) (n i) ++ (flat_map node_text (e i) ++ flat_map entry_text (f i))
+
+base_nodes : entries base.nodes ≡ (root_fid, root_node) ∷ []
+base_nodes = entries-insert fids_total empty root_fid root_node ∙ ap (put fid_cmp root_fid root_node) (entries_empty fid_cmp)
+
+base_text : tree_text base ≡ codes "tree 1 0\nnode [0x200000007:0x1:0x0] dir 0755 0 0 2\n"
+unfolding digits
+base_text = text_of base ((root_fid, root_node) ∷ []) [] base_nodes (entries_empty entry_cmp)
+
+abbrev file_fid : Fid
+file_fid = record { seq = 0x200000400; oid = 1; ver = 0 }
+
+abbrev name : EntryKey
+name = entry_key root_fid (codes "a")
+
+abbrev create : Op
+create = Create root_fid (codes "a") file_fid
+
+abbrev grown : Tree
+grown = added base name file_fid file_node
+
+node_at : (q : Fid) → get base.nodes q ≡ cond (eq_by_cmp fid_cmp q root_fid) (Some root_node) None
+node_at q = get-insert fids_total empty root_fid root_node q ∙ ap (cond (eq_by_cmp fid_cmp q root_fid) (Some root_node)) (get-empty fid_cmp q)
+
+no_fault : create_fault 1 base root_fid (codes "a") file_fid ≡ None
+no_fault =
+    let parent = node_at root_fid in
+    let file = node_at file_fid in
+    let entry = get-empty {X = Fid} entry_cmp name in
+    λ i. first_fault (client_fault 1 file_fid) (first_fault (parent_fault (parent i)) (first_fault (taken_fault (entry i)) (taken_fault (file i))))
+
+file_step : step 1 base create ≡ (grown, replies.Ok)
+file_step = ap (λ fault. checked fault base grown) no_fault
+
+grown_text : tree_text grown ≡ codes "tree 2 1\nnode [0x200000007:0x1:0x0] dir 0755 0 0 2\nnode [0x200000400:0x1:0x0] file 0644 0 0 1\nentry [0x200000007:0x1:0x0] a [0x200000400:0x1:0x0]\n"
+unfolding digits
+grown_text = text_of grown ((root_fid, root_node) ∷ (file_fid, file_node) ∷ []) ((name, file_fid) ∷ [])
+    (entries-insert fids_total base.nodes file_fid file_node ∙ ap (put fid_cmp file_fid file_node) base_nodes)
+    (entries-insert entries_total base.entries name file_fid ∙ ap (put entry_cmp name file_fid) (entries_empty entry_cmp))
+
+abbrev request : Request
+request = record { number = 1; client = 0; op = create }
+
+abbrev item : Item
+item = record { request = request; reply = replies.Ok }
+
+-- THE RUNS
+
+abbrev made : State
+made = record { asked = record { cluster = Some 1; ended = false; sent = [] }; history = [] }
+
+abbrev sent : State
+sent = record { asked = record { cluster = Some 1; ended = false; sent = request ∷ [] }; history = [] }
+
+abbrev settled : State
+settled = record { asked = record { cluster = Some 1; ended = false; sent = request ∷ [] }; history = item ∷ [] }
+
+abbrev cluster_group : Group
+cluster_group = record { command = commands.Cluster 1; lines = [] }
+
+abbrev send_group : Group
+send_group = record { command = commands.Send request; lines = [] }
+
+abbrev settle_group : Group
+settle_group = record { command = commands.Settle; lines = lines.Accept 1 replies.Ok 1 ∷ lines.Reply 1 replies.Ok ∷ [] }
+
+abbrev tree_group : State → Group
+tree_group s = record { command = commands.Tree; lines = lines.Tree (record { targets = targets_of s; tree = tree_of (targets_of s) s.history }) ∷ [] }
+
+abbrev end_group : Group
+end_group = record { command = commands.End; lines = lines.EndClean ∷ [] }
+
+abbrev end_of : State → State
+end_of s = record s { asked = record s.asked { ended = true } }
+
+root_placed : IsPlaced 1 root_fid
+root_placed = ((omega arith, omega arith, omega arith), refl)
+
+file_placed : IsPlaced 1 file_fid
+file_placed = ((omega arith, omega arith, omega arith), refl)
+
+name_plain : IsPlainName (codes "a")
+name_plain = ((omega arith, omega arith, All-cons (λ b. (b ≢ 0) × (b ≢ 0x2f)) 97 [] ((λ e. cc), (λ e. cc)) (All-nil (λ b. (b ≢ 0) × (b ≢ 0x2f))), (λ e. cc), (λ e. cc)), (refl, tt))
+
+on_home : 1 ≡ participants 1 create replies.Ok
+on_home = refl
+
+cluster_turn : Turn start cluster_group made
+cluster_turn = ((refl, refl), refl, refl)
+
+send_turn : Turn made send_group sent
+send_turn = (((omega arith, omega arith, omega arith, (root_placed, name_plain, file_placed)), ((refl, refl), omega arith)), refl, refl)
+
+settle_turn : Turn sent settle_group settled
+settle_turn = (
+  (tt, (refl, refl)),
+  (tt, (tt, tt)),
+  (
+    settled,
+    (request, inl refl, refl, tt, ap (λ (p : Tree × Reply). p.1) (sym file_step), on_home, refl, refl),
+    (settled, (item, refl, refl, (inl refl, (λ _. omega arith, tt)), refl), refl),
+  ),
+)
+
+tree_turn : (s : State) → IsSome s.asked.cluster → s.asked.ended ≡ false → Turn s (tree_group s) s
+tree_turn s some going = ((tt, (some, going)), (_, refl), (s, (refl, refl), refl))
+
+end_turn : (s : State) → IsSome s.asked.cluster → s.asked.ended ≡ false → Turn s end_group (end_of s)
+end_turn s some going = ((tt, (some, going)), refl, (end_of s, refl, refl))
+
+abbrev first_groups : List Group
+first_groups = cluster_group ∷ send_group ∷ settle_group ∷ tree_group settled ∷ end_group ∷ []
+
+first_run : Run start first_groups (end_of settled)
+first_run = (made, cluster_turn, (sent, send_turn, (settled, settle_turn, (settled, tree_turn settled refl refl, (end_of settled, end_turn settled refl refl, refl)))))
+
+first_text : transcript first_groups ≡ codes "accept 1 OK on 0\nreply 1 OK\ntree 2 1\nnode [0x200000007:0x1:0x0] dir 0755 0 0 2\nnode [0x200000400:0x1:0x0] file 0644 0 0 1\nentry [0x200000007:0x1:0x0] a [0x200000400:0x1:0x0]\nend clean\n"
+unfolding digits members
+first_text = ap (λ t. codes "accept 1 OK on 0\nreply 1 OK\n" ++ (t ++ codes "end clean\n")) (ap (λ (p : Tree × Reply). tree_text p.0) file_step ∙ grown_text)
+
+first_scenario : scenario (commands_of first_groups) ≡ codes "cluster 1\nsend 1 0 create [0x200000007:0x1:0x0] a [0x200000400:0x1:0x0]\nsettle\ntree\nend\n"
+unfolding digits
+first_scenario = refl
+
+pub first : IsTranscript
+    (codes "cluster 1\nsend 1 0 create [0x200000007:0x1:0x0] a [0x200000400:0x1:0x0]\nsettle\ntree\nend\n")
+    (codes "accept 1 OK on 0\nreply 1 OK\ntree 2 1\nnode [0x200000007:0x1:0x0] dir 0755 0 0 2\nnode [0x200000400:0x1:0x0] file 0644 0 0 1\nentry [0x200000007:0x1:0x0] a [0x200000400:0x1:0x0]\nend clean\n")
+first = (first_groups, end_of settled, first_run, (tt, (tt, ((inl refl, tt), (tt, (tt, tt))))), refl, sym first_scenario, sym first_text)
+
+abbrev empty_groups : List Group
+empty_groups = cluster_group ∷ tree_group made ∷ end_group ∷ []
+
+empty_run : Run start empty_groups (end_of made)
+empty_run = (made, cluster_turn, (made, tree_turn made refl refl, (end_of made, end_turn made refl refl, refl)))
+
+empty_text : transcript empty_groups ≡ codes "tree 1 0\nnode [0x200000007:0x1:0x0] dir 0755 0 0 2\nend clean\n"
+empty_text = ap (λ t. t ++ codes "end clean\n") base_text
+
+empty_scenario : scenario (commands_of empty_groups) ≡ codes "cluster 1\ntree\nend\n"
+unfolding digits
+empty_scenario = refl
+
+pub empty_tree : IsTranscript (codes "cluster 1\ntree\nend\n") (codes "tree 1 0\nnode [0x200000007:0x1:0x0] dir 0755 0 0 2\nend clean\n")
+empty_tree = (empty_groups, end_of made, empty_run, (tt, (tt, (tt, tt))), refl, sym empty_scenario, sym empty_text)

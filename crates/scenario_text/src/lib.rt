@@ -1,0 +1,25 @@
+//! The commands of a scenario and the lines of its transcript, each with its one text, and the
+//! definitions of what a transcript may be: the grammar of scenarios, the plain machine, its groups of
+//! lines, and what a whole run owes its requests.
+//!
+//! The layer above may rest on this: a line is read as a command exactly where it is that command's
+//! spelling, no two commands share one, and a line value is printed as its one text. Of the plain
+//! machine it may rest on the laws, and on two transcripts that were computed from the definitions.
+#![tactic(auto)]
+
+mod command;
+mod laws;
+mod line;
+mod list;
+mod transcripts;
+
+pub use command::{Command, TextFault};
+pub use laws::{
+    a_run_accepts_each_number_once, a_run_has_a_legal_history, commands_come_in_order,
+    one_spelling_per_command,
+};
+pub use line::{Line, print_accept, print_reply};
+pub use transcripts::{empty_transcript, first_transcript};
+
+#[cfg(test)]
+mod tests;

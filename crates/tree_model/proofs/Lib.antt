@@ -1,0 +1,4 @@
+pub mod Maps
+pub mod Texts
+pub mod OpTexts
+pub mod Histories

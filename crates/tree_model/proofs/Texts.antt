@@ -1,0 +1,49 @@
+-- The text of a tree from the two maps that keep it.
+use Rattle.std.proofs.Common.{◌≡◌, ℕ, Bool, true, false, ◌&&◌, T, map, List, [], ◌∷◌, ◌++◌, length, sym, ap, ◌∙◌, subst, append_assoc}
+use Rattle.std.specs.declared.cmp.Ordering.{Ordering}
+use Rattle.std.specs.declared.cmp.Ordering.TheVariants.{Less}
+use Rattle.std.specs.Ordering.{is_lt}
+use Rattle.std.specs.List.{flat_map, AllByRecursion}
+use Rattle.std.specs.List.Sorted.{IsStrictlySortedBy}
+use Rattle.std.specs.Cmp.{IsTotalOrder}
+use Rattle.std.specs.FinMap.{is_sorted, entries, len, from_entries, from_sorted, get-from_entries, get-from_sorted, entries-from_sorted, len-entries, same_map}
+use Rattle.std.specs.FinMap.Entries.{below_all}
+use Rattle.std.proofs.lemmas.Map.Lookups.{CmpEqualImpliesEq}
+use Rattle.fid_space.specs.declared.fid.Fid.{Fid}
+use Rattle.tree_model.specs.declared.plain_tree.Node.{Node}
+use Rattle.tree_model.specs.declared.plain_tree.EntryKey.{EntryKey}
+use Rattle.tree_model.specs.Tree.{Tree}
+use Rattle.tree_model.specs.TreeText.{tree_head, tree_text, node_text, entry_text}
+
+both : (a b : Bool) → T a → T b → T (a && b)
+both true b x y = y
+both false b x y = absurd x
+
+module _ {K X : Type 0} (R : K → K → Ordering) where
+  below : (k : K) (es : List (K × X)) → AllByRecursion (λ y. R k y ≡ Less) (map (λ (e : K × X). e.0) es) → T (below_all R k es)
+  below k [] h = tt
+  below k (e ∷ es) h = both (is_lt (R k e.0)) (below_all R k es) (subst (λ r. T (is_lt r)) (sym h.0) tt) (below k es h.1)
+
+  sorted : (es : List (K × X)) → IsStrictlySortedBy R (map (λ (e : K × X). e.0) es) → T (is_sorted R es)
+  unfolding IsStrictlySortedBy
+  sorted [] h = tt
+  sorted (e ∷ es) h = both (below_all R e.0 es) (is_sorted R es) (below e.0 es h.0) (sorted es h.1)
+
+  -- the entries of the map that ordered entries make
+  pub entries_again : IsTotalOrder R → CmpEqualImpliesEq R → (es : List (K × X)) → IsStrictlySortedBy R (map (λ (e : K × X). e.0) es) → entries (from_entries {R = R} es) ≡ es
+  entries_again total exact es h =
+      let s = sorted es h in
+      ap entries (same_map total exact (from_entries es) (from_sorted es) (λ q. get-from_entries total es q ∙ sym (get-from_sorted R es q s))) ∙ entries-from_sorted R es s
+
+-- the parts of a text, one after another
+pub parts : (out : List ℕ) (t : Tree) (nodes : List (Fid × Node)) (places : List (EntryKey × Fid)) → entries t.nodes ≡ nodes → entries t.entries ≡ places
+    → ((out ++ tree_head (length nodes) (length places)) ++ flat_map node_text nodes) ++ flat_map entry_text places ≡ out ++ tree_text t
+unfolding tree_text
+parts out t nodes places n p =
+    let text : List (Fid × Node) → List (EntryKey × Fid) → List ℕ = λ ns ps. tree_head (length ns) (length ps) ++ (flat_map node_text ns ++ flat_map entry_text ps) in
+    let counted : tree_text t ≡ text (entries t.nodes) (entries t.entries) =
+    ap (λ k. tree_head k (len t.entries) ++ (flat_map node_text (entries t.nodes) ++ flat_map entry_text (entries t.entries))) (len-entries t.nodes)
+    ∙ ap (λ k. tree_head (length (entries t.nodes)) k ++ (flat_map node_text (entries t.nodes) ++ flat_map entry_text (entries t.entries))) (len-entries t.entries) in
+    append_assoc (out ++ tree_head (length nodes) (length places)) (flat_map node_text nodes) (flat_map entry_text places)
+    ∙ append_assoc out (tree_head (length nodes) (length places)) (flat_map node_text nodes ++ flat_map entry_text places)
+    ∙ ap (λ l. out ++ l) (sym (counted ∙ ap (λ ns. text ns (entries t.entries)) n ∙ ap (λ ps. text nodes ps) p))

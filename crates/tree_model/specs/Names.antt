@@ -1,0 +1,23 @@
+-- What may name an entry, and how a name is spelled in a text.
+use Rattle.std.specs.Prelude.{◌≢◌, ℕ, ◌≤◌, ◌/◌, ◌%◌, ◌&&◌, ◌==◌, Bool, false, not, nat_le, List, [], ◌∷◌, length, codes, All, if◌then◌else◌}
+use Rattle.std.specs.List.{flat_map}
+use Rattle.std.specs.Fmt.{digit_glyph}
+
+-- 1 to 255 bytes without NUL and `/`, and neither `.` nor `..`
+abbrev pub IsName : List ℕ → Type 0
+IsName n = (1 ≤ length n) × (length n ≤ 255) × All (λ b. (b ≢ 0) × (b ≢ 0x2f)) n × (n ≢ codes ".") × (n ≢ codes "..")
+
+-- a byte that stands for itself in a spelled name: 0x21 to 0x7e, but for `%`
+abbrev pub is_plain : ℕ → Bool
+is_plain b = nat_le 0x21 b && nat_le b 0x7e && not (b == 0x25)
+
+-- a byte in two lower-case hexadecimal digits
+abbrev pub hex_byte : ℕ → List ℕ
+hex_byte b = digit_glyph false (b / 16) ∷ digit_glyph false (b % 16) ∷ []
+
+-- a byte of a name, as it is spelled
+abbrev pub name_byte : ℕ → List ℕ
+name_byte b = if is_plain b then b ∷ [] else 0x25 ∷ hex_byte b
+
+abbrev pub name_word : List ℕ → List ℕ
+name_word name = flat_map name_byte name

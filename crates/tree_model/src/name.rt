@@ -1,0 +1,121 @@
+ghost use Rattle.std.specs.Prelude.{◌≡◌, ◌↔◌, ◌≤◌, IsTrue, IfOk, OnOk, IsErrOf};
+ghost use Rattle.tree_model.specs.Names.{IsName};
+ghost use Rattle.std.proofs.Common.{rules};
+ghost use Rattle.std.specs.Cmp.{partial_order_from_own_ties};
+ghost use Rattle.std.specs.Cmp.Rules.{comparing};
+ghost use Rattle.std.specs.Ordering.{nat_cmp, as_partial_cmp};
+ghost use Rattle.std.specs.Cmp.Lexicographic.{slice_cmp, pointwise};
+ghost use Rattle.std.specs.Prelude.{◌==◌};
+
+use std::alloc::{AllocError as Memory, Global};
+use std::cmp::Ordering;
+use std::marker::Model;
+
+/// The name of an entry: 1 to 255 bytes without NUL and `/`, and neither `.` nor `..`. POSIX calls it a
+/// filename; 255 bytes are the most that the Lustre Operations Manual allows. Names are ordered by bytes.
+#[derive(Debug, Drop)]
+pub struct Name {
+    inner: Vec<u8>,
+}
+
+impl Model for Name {
+    ghost use Rattle.std.specs.Prelude.{List, ℕ};
+
+    ghost Value = { List ℕ };
+
+    ghost use Rattle.tree_model.specs.Names.{IsName};
+
+    ghost view = { λ n. n.inner.items };
+
+    ghost invariant = { λ n. IsName n.inner.items };
+}
+
+/// Why bytes made no name.
+#[derive(Clone, Copy, Debug, PartialEq, Eq)]
+pub enum NameFault {
+    /// The bytes are no name.
+    BadName,
+    /// Memory ran out.
+    Memory,
+}
+
+impl Name {
+    /// The name with these bytes. What is no name is told before memory is taken.
+    pub fn new(alloc: Global, bytes: &[u8]) -> Result<Name, NameFault>
+        ensures ok { IfOk result (λ n. (n ≡ bytes.now) × IsName n) }
+        ensures bad { IsErrOf result NameFault.BadName → ¬ IsName bytes.now }
+        ensures only { ¬ IsName bytes.now → result ≡ Err NameFault.BadName }
+    {
+        if !is_name(bytes) {
+            return Err(NameFault::BadName);
+        }
+        match Vec::from_slice(alloc, bytes) {
+            Ok(inner) => Ok(Name { inner }),
+            Err(_) => Err(NameFault::Memory),
+        }
+    }
+
+    /// Lends the bytes, without escapes.
+    pub fn bytes(&self) -> &[u8]
+        ensures { result.now ≡ self.now }
+    {
+        self.inner.as_slice()
+    }
+
+    /// A copy that takes its memory from the allocator.
+    pub fn copy(&self, alloc: Global) -> Result<Name, Memory>
+        ensures { IfOk result (λ n. n ≡ self.now) }
+    {
+        Ok(Name {
+            inner: Vec::from_slice(alloc, self.inner.as_slice())?,
+        })
+    }
+}
+
+fn is_name(bytes: &[u8]) -> bool
+    ensures { IsTrue result ↔ IsName bytes.now }
+{
+    1 <= bytes.len()
+        && bytes.len() <= 255
+        && bytes.iter().all(|b| *b != 0 && *b != 0x2f)
+        && bytes != b".".as_slice()
+        && bytes != b"..".as_slice()
+}
+
+impl PartialEq for Name {
+    ghost eq = { pointwise ◌==◌ };
+
+    ghost laws = { Prim.search (comparing, rules) };
+
+    fn eq(&self, other: &Name) -> bool {
+        self.inner.as_slice() == other.inner.as_slice()
+    }
+}
+
+impl Eq for Name {
+    ghost laws = { Prim.search (comparing, rules) };
+}
+
+impl Ord for Name {
+    ghost cmp = { slice_cmp nat_cmp };
+
+    ghost total = { Prim.search (comparing, rules) };
+
+    ghost matches_partial_cmp = { Prim.search (comparing, rules) };
+
+    ghost matches_eq = { Prim.search (comparing, rules) };
+
+    fn cmp(&self, other: &Name) -> Ordering {
+        self.inner.as_slice().cmp(other.inner.as_slice())
+    }
+}
+
+impl PartialOrd for Name {
+    ghost partial_cmp = { as_partial_cmp (slice_cmp nat_cmp) };
+
+    ghost laws = { partial_order_from_own_ties (Prim.search (comparing, rules)) (Prim.search (comparing, rules)) };
+
+    fn partial_cmp(&self, other: &Name) -> Option<Ordering> {
+        Some(self.cmp(other))
+    }
+}

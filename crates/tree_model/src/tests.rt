@@ -1,0 +1,366 @@
+use crate::{Errno, Name, NameFault, Op, OpFault, PlainTree, Reply, number, words};
+use fid_space::{Bytes, Cluster, Fid};
+use std::alloc::{AllocError as Memory, Global};
+use std::test::Fail;
+
+const BARE: &str = "tree 1 0\nnode [0x200000007:0x1:0x0] dir 0755 0 0 2\n";
+
+const ONE: &str =
+    "tree 2 1\nnode [0x200000007:0x1:0x0] dir 0755 0 0 2\nnode [0x200000400:0x1:0x0] file 0644 0 0 1\nentry [0x200000007:0x1:0x0] b [0x200000400:0x1:0x0]\n";
+
+const TWO: &str =
+    "tree 3 2\nnode [0x200000007:0x1:0x0] dir 0755 0 0 2\nnode [0x200000400:0x1:0x0] file 0644 0 0 1\nnode [0x2000083ff:0xffffffff:0x0] file 0644 0 0 1\nentry [0x200000007:0x1:0x0] Z [0x2000083ff:0xffffffff:0x0]\nentry [0x200000007:0x1:0x0] b [0x200000400:0x1:0x0]\n";
+
+const FILE: Fid = Fid {
+    seq: 0x2_0000_0400,
+    oid: 1,
+    ver: 0,
+};
+
+fn read(alloc: Global, text: &[u8], targets: u8) -> Result<Op, OpFault> {
+    match Cluster::new(targets) {
+        Some(cluster) => Op::parse(alloc, text, cluster),
+        None => Err(OpFault::Memory),
+    }
+}
+
+fn reply_text(alloc: Global, reply: &Reply) -> Result<Bytes, Memory> {
+    let mut out = Bytes::new(alloc);
+    reply.print(&mut out)?;
+    Ok(out)
+}
+
+fn tree_text(alloc: Global, tree: &PlainTree) -> Result<Bytes, Memory> {
+    let mut out = Bytes::new(alloc);
+    tree.print(&mut out)?;
+    Ok(out)
+}
+
+#[test]
+fn creates(rt: HostRuntime) -> Result<(), Fail> {
+    let alloc = rt.alloc();
+    let rows = [
+        (
+            "create [0x200000007:0x1:0x0] b [0x200008400:0x1:0x0]",
+            "EINVAL",
+            BARE,
+        ),
+        (
+            "create [0x200000007:0x1:0x0] b [0x200000007:0x1:0x0]",
+            "EINVAL",
+            BARE,
+        ),
+        (
+            "create [0x200000007:0x1:0x0] b [0x200000400:0x1:0x0]",
+            "OK",
+            ONE,
+        ),
+        (
+            "create [0x200000007:0x1:0x0] b [0x200000400:0x0:0x0]",
+            "EINVAL",
+            ONE,
+        ),
+        (
+            "create [0x200000400:0x9:0x0] b [0x200000400:0x1:0x1]",
+            "EINVAL",
+            ONE,
+        ),
+        (
+            "create [0x200000400:0x9:0x0] b [0x200000400:0x1:0x0]",
+            "ENOENT",
+            ONE,
+        ),
+        (
+            "create [0x200000400:0x1:0x0] b [0x200000400:0x1:0x0]",
+            "ENOTDIR",
+            ONE,
+        ),
+        (
+            "create [0x200000007:0x1:0x0] b [0x200000400:0x2:0x0]",
+            "EEXIST",
+            ONE,
+        ),
+        (
+            "create [0x200000007:0x1:0x0] c [0x200000400:0x1:0x0]",
+            "EEXIST",
+            ONE,
+        ),
+        (
+            "create [0x200000007:0x1:0x0] Z [0x2000083ff:0xffffffff:0x0]",
+            "OK",
+            TWO,
+        ),
+    ];
+    let cluster = Cluster::new(1).ok_or("a cluster")?;
+    let mut tree = PlainTree::new(alloc, cluster)?;
+    assert_eq!(rt; tree.cluster().targets(), 1);
+    assert_eq!(rt; tree_text(alloc, &tree)?.bytes(), BARE.as_bytes());
+    for (text, reply, after) in rows {
+        let op = read(alloc, text.as_bytes(), 1)?;
+        let got = tree.apply(&op)?;
+        assert_eq!(rt;
+            reply_text(alloc, &got)?.bytes(),
+            reply.as_bytes(),
+            "{text}"
+        );
+        assert_eq!(rt;
+            tree_text(alloc, &tree)?.bytes(),
+            after.as_bytes(),
+            "{text}"
+        );
+    }
+    Ok(())
+}
+
+#[test]
+fn reads_a_create(rt: HostRuntime) -> Result<(), Fail> {
+    let alloc = rt.alloc();
+    let text = "create [0x200000007:0x1:0x0] a [0x200000400:0x1:0x0]";
+    let op = read(alloc, text.as_bytes(), 1)?;
+    let mut out = Bytes::new(alloc);
+    op.print(&mut out)?;
+    assert_eq!(rt; out.bytes(), text.as_bytes());
+    let Op::Create { parent, name, fid } = op;
+    assert_eq!(rt; parent, Fid::ROOT);
+    assert_eq!(rt; name.bytes(), b"a".as_slice());
+    assert_eq!(rt; fid, FILE);
+    Ok(())
+}
+
+#[test]
+fn reads_no_other_text(rt: HostRuntime) -> Result<(), Fail> {
+    let alloc = rt.alloc();
+    let rows = [
+        (
+            "create [0x200000007:0x1:0x0] !~ [0x200000400:0x1:0x0]",
+            1,
+            true,
+        ),
+        (
+            "create [0x200000007:0x1:0x0] a [0x200100400:0x1:0x0]",
+            2,
+            true,
+        ),
+        (
+            "create [0x200000007:0x1:0x0] a [0x200100400:0x1:0x0]",
+            1,
+            false,
+        ),
+        (
+            "create [0x200100400:0x1:0x0] a [0x200000400:0x1:0x0]",
+            1,
+            false,
+        ),
+        (
+            "mknod [0x200000007:0x1:0x0] a [0x200000400:0x1:0x0]",
+            1,
+            false,
+        ),
+        (
+            "Create [0x200000007:0x1:0x0] a [0x200000400:0x1:0x0]",
+            1,
+            false,
+        ),
+        ("create [0x200000007:0x1:0x0] a", 1, false),
+        (
+            "create [0x200000007:0x1:0x0] a [0x200000400:0x1:0x0] ",
+            1,
+            false,
+        ),
+        (
+            "create  [0x200000007:0x1:0x0] a [0x200000400:0x1:0x0]",
+            1,
+            false,
+        ),
+        (
+            "create [0x200000007:0x01:0x0] a [0x200000400:0x1:0x0]",
+            1,
+            false,
+        ),
+        (
+            "create [0x200000007:0x1:0x0] a 0x200000400:0x1:0x0",
+            1,
+            false,
+        ),
+        (
+            "create [0x200000007:0x1:0x0] a%20 [0x200000400:0x1:0x0]",
+            1,
+            false,
+        ),
+        (
+            "create [0x200000007:0x1:0x0] a\t [0x200000400:0x1:0x0]",
+            1,
+            false,
+        ),
+        (
+            "create [0x200000007:0x1:0x0] a/b [0x200000400:0x1:0x0]",
+            1,
+            false,
+        ),
+        (
+            "create [0x200000007:0x1:0x0]  [0x200000400:0x1:0x0]",
+            1,
+            false,
+        ),
+        (
+            "create [0x200000007:0x1:0x0] . [0x200000400:0x1:0x0]",
+            1,
+            false,
+        ),
+        (
+            "create [0x200000007:0x1:0x0] .. [0x200000400:0x1:0x0]",
+            1,
+            false,
+        ),
+        ("", 1, false),
+    ];
+    for (text, targets, taken) in rows {
+        let got = match read(alloc, text.as_bytes(), targets) {
+            Ok(_) => Ok(()),
+            Err(fault) => Err(fault),
+        };
+        let want = if taken { Ok(()) } else { Err(OpFault::NotYet) };
+        assert_eq!(rt; got, want, "{text}");
+    }
+    Ok(())
+}
+
+#[test]
+fn prints_replies(rt: HostRuntime) -> Result<(), Fail> {
+    let alloc = rt.alloc();
+    let file = Reply::Attr {
+        dir: false,
+        mode: 0o644,
+        uid: 1000,
+        gid: 4294967295,
+        links: 3,
+    };
+    let directory = Reply::Attr {
+        dir: true,
+        mode: 0o1537,
+        uid: 0,
+        gid: 7,
+        links: 2,
+    };
+    let mut bytes = Bytes::new(alloc);
+    let empty = Reply::Value(Bytes::new(alloc));
+    bytes.append(&[0x0a, 0xff])?;
+    let value = Reply::Value(bytes);
+    assert_eq!(rt; reply_text(alloc, &Reply::Ok)?.bytes(), b"OK".as_slice());
+    assert_eq!(rt;
+        reply_text(alloc, &Reply::Fid(FILE))?.bytes(),
+        b"[0x200000400:0x1:0x0]".as_slice()
+    );
+    assert_eq!(rt;
+        reply_text(alloc, &file)?.bytes(),
+        b"file 0644 1000 4294967295 3".as_slice()
+    );
+    assert_eq!(rt;
+        reply_text(alloc, &directory)?.bytes(),
+        b"dir 1537 0 7 2".as_slice()
+    );
+    assert_eq!(rt; reply_text(alloc, &value)?.bytes(), b"0aff".as_slice());
+    assert_eq!(rt; reply_text(alloc, &empty)?.bytes(), b"-".as_slice());
+    assert_eq!(rt;
+        reply_text(alloc, &Reply::Err(Errno::ENOENT))?.bytes(),
+        b"ENOENT".as_slice()
+    );
+    Ok(())
+}
+
+#[test]
+fn names_errors(rt: HostRuntime) {
+    let rows = [
+        (Errno::EPERM, "EPERM", 1),
+        (Errno::ENOENT, "ENOENT", 2),
+        (Errno::EEXIST, "EEXIST", 17),
+        (Errno::ENOTDIR, "ENOTDIR", 20),
+        (Errno::EISDIR, "EISDIR", 21),
+        (Errno::EINVAL, "EINVAL", 22),
+        (Errno::EFBIG, "EFBIG", 27),
+        (Errno::ENOSPC, "ENOSPC", 28),
+        (Errno::EMLINK, "EMLINK", 31),
+        (Errno::ENOTEMPTY, "ENOTEMPTY", 39),
+        (Errno::ELOOP, "ELOOP", 40),
+        (Errno::ENODATA, "ENODATA", 61),
+    ];
+    for (errno, word, number) in rows {
+        assert_eq!(rt; errno.word(), word);
+        assert_eq!(rt; errno as u32, number);
+    }
+}
+
+#[test]
+fn escapes_in_names(rt: HostRuntime) -> Result<(), Fail> {
+    let alloc = rt.alloc();
+    let cluster = Cluster::new(1).ok_or("a cluster")?;
+    let mut tree = PlainTree::new(alloc, cluster)?;
+    let op = Op::Create {
+        parent: Fid::ROOT,
+        name: Name::new(alloc, &[0x41, 0x20, 0x25, 0x7e, 0x7f, 0xfe])?,
+        fid: FILE,
+    };
+    tree.apply(&op)?;
+    let want =
+        "tree 2 1\nnode [0x200000007:0x1:0x0] dir 0755 0 0 2\nnode [0x200000400:0x1:0x0] file 0644 0 0 1\nentry [0x200000007:0x1:0x0] A%20%25~%7f%fe [0x200000400:0x1:0x0]\n";
+    assert_eq!(rt; tree_text(alloc, &tree)?.bytes(), want.as_bytes());
+    Ok(())
+}
+
+#[test]
+fn names(rt: HostRuntime) -> Result<(), Fail> {
+    let alloc = rt.alloc();
+    let long = [b'x'; 256];
+    let rows = [
+        (b"a".as_slice(), true),
+        (b"...".as_slice(), true),
+        (&[0x01, 0xff], true),
+        (&long[..255], true),
+        (long.as_slice(), false),
+        (b"".as_slice(), false),
+        (&[0x61, 0x00], false),
+        (b"a/b".as_slice(), false),
+        (b".".as_slice(), false),
+        (b"..".as_slice(), false),
+    ];
+    for (bytes, taken) in rows {
+        match Name::new(alloc, bytes) {
+            Ok(name) => assert!(rt; taken && name.bytes() == bytes && name.copy(alloc)? == name),
+            Err(fault) => assert!(rt; !taken && fault == NameFault::BadName),
+        }
+    }
+    Ok(())
+}
+
+#[test]
+fn numbers(rt: HostRuntime) -> Result<(), Fail> {
+    let rows = [
+        (b"0".as_slice(), Some(0)),
+        (b"10".as_slice(), Some(10)),
+        (b"4294967295".as_slice(), Some(4294967295)),
+        (b"4294967296".as_slice(), None),
+        (b"01".as_slice(), None),
+        (b"+1".as_slice(), None),
+        (b"1 ".as_slice(), None),
+        (b"a".as_slice(), None),
+        (b"".as_slice(), None),
+        (&[0xff], None),
+    ];
+    for (word, want) in rows {
+        assert_eq!(rt; number(rt.alloc(), word)?, want, "{word:?}");
+    }
+    Ok(())
+}
+
+#[test]
+fn words_of_a_line(rt: HostRuntime) -> Result<(), Fail> {
+    let got = words(rt.alloc(), b" a bc  d")?;
+    assert_eq!(rt; got.len(), 5);
+    assert_eq!(rt; got[0], b"".as_slice());
+    assert_eq!(rt; got[1], b"a".as_slice());
+    assert_eq!(rt; got[2], b"bc".as_slice());
+    assert_eq!(rt; got[3], b"".as_slice());
+    assert_eq!(rt; got[4], b"d".as_slice());
+    assert_eq!(rt; words(rt.alloc(), b"")?.len(), 1);
+    Ok(())
+}

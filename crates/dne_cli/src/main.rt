@@ -5,18 +5,22 @@
 //! is the transcript of a run of one plain tree over exactly the lines that it read.
 #![tactic(auto)]
 
+ghost use Rattle.std.specs.Prelude.{◌≡◌, vec_len, IfOk};
+
 mod player;
 mod serve;
 mod session;
 mod status;
+mod store;
 #[cfg(test)]
 mod tests;
 mod top;
 
-use outside::{NoDisk, StreamSink, StreamSource};
+use outside::{MemoryDisk, Plant, StreamSink, StreamSource};
 use std::alloc::{AllocError as Memory, Global};
 use std::env;
 use std::process::ExitCode;
+use store::{open_disks, take_store};
 pub use top::dne_main;
 
 /// The words after the program's name. Words that can't be had, as one that isn't UTF-8, are none.
@@ -30,27 +34,36 @@ fn words_of(rt: &HostRuntime) -> Result<Vec<String>, Memory> {
     Ok(words)
 }
 
-/// Sixteen disks that aren't there.
-fn no_disks(alloc: Global) -> Result<Vec<NoDisk>, Memory> {
+/// Sixteen disks in memory.
+fn memory_disks(alloc: Global) -> Result<Vec<MemoryDisk>, Memory>
+    ensures { IfOk result (λ disks. vec_len disks ≡ 16) }
+{
     let mut disks = Vec::new(alloc);
-    for _ in 0..16 {
-        disks.push(NoDisk::new())?;
+    for _index in 0..16u8 {
+        disks.push(MemoryDisk::new(alloc, &[])?)?;
     }
     Ok(disks)
 }
 
-fn run(rt: &HostRuntime) -> Result<u8, Memory> {
-    let words = words_of(rt)?;
-    let mut disks = no_disks(rt.alloc())?;
+/// Runs the program over standard input and output.
+fn run_over<D: Plant>(rt: &HostRuntime, words: &[String], mut disks: Vec<D>) -> u8 {
     let mut input = StreamSource::new(rt.stdin());
     let mut output = StreamSink::new(rt.stdout());
-    Ok(dne_main(
-        rt.alloc(),
-        words.as_slice(),
-        &mut input,
-        &mut output,
-        &mut disks,
-    ))
+    dne_main(rt.alloc(), words, &mut input, &mut output, &mut disks)
+}
+
+fn run(rt: &HostRuntime) -> Result<u8, Memory> {
+    let mut words = words_of(rt)?;
+    match take_store(&mut words) {
+        None => Ok(run_over(rt, words.as_slice(), memory_disks(rt.alloc())?)),
+        Some(folder) => match open_disks(rt, folder.as_str()) {
+            Ok(disks) => Ok(run_over(rt, words.as_slice(), disks)),
+            Err(_) => {
+                let _ = rt.print("store: cannot open\n");
+                Ok(6)
+            }
+        },
+    }
 }
 
 fn main(rt: HostRuntime) -> ExitCode {

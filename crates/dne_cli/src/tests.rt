@@ -1,5 +1,5 @@
 use crate::dne_main;
-use outside::{NoDisk, TextSink, TextSource};
+use outside::{MemoryDisk, TextSink, TextSource};
 use scenario_text::{empty_transcript, first_transcript};
 use std::alloc::Global;
 use std::test::Fail;
@@ -19,7 +19,7 @@ fn run(
     bad_writes: &[u64],
 ) -> Result<(u8, TextSink), Fail> {
     let words = vec![in alloc; String::from_str(alloc, word)?]?;
-    let mut disks = vec![in alloc; NoDisk::new()]?;
+    let mut disks = vec![in alloc; MemoryDisk::new(alloc, &[])?]?;
     let mut input = TextSource::new(alloc, text, bad_reads)?;
     let mut output = TextSink::new(alloc, bad_writes)?;
     let status = dne_main(alloc, words.as_slice(), &mut input, &mut output, &mut disks);

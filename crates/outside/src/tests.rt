@@ -1,9 +1,10 @@
 use crate::{
-    Disk, DiskFault, NoDisk, Plant, Sink, SinkFault, Source, SourceFault, StreamSink, StreamSource,
-    TextSink, TextSource, put_all,
+    Sink, SinkFault, Source, SourceFault, StreamSink, StreamSource, TextSink, TextSource, put_all,
 };
 use std::io::{self, ErrorKind, Read, Write};
 use std::test::Fail;
+
+mod disks;
 
 /// A reader and a writer that fail.
 #[derive(Drop)]
@@ -104,17 +105,4 @@ fn streams_write(rt: HostRuntime) -> Result<(), Fail> {
     assert_eq!(rt; full.write(b""), Ok(0));
     assert_eq!(rt; full.faults(), 1);
     Ok(())
-}
-
-#[test]
-fn no_disk_fails(rt: HostRuntime) {
-    let mut disk = NoDisk::new();
-    let mut into = [7u8];
-    disk.arm(3, 1);
-    assert_eq!(rt; (disk.faults(), disk.len()), (0, 67_108_864));
-    assert_eq!(rt; disk.read_at(0, &mut into), Err(DiskFault::Failed));
-    assert_eq!(rt; disk.write_at(0, &into), Err(DiskFault::Failed));
-    assert_eq!(rt; disk.sync(), Err(DiskFault::Failed));
-    assert_eq!(rt; disk.power_cycle(), Err(DiskFault::Failed));
-    assert_eq!(rt; (disk.faults(), into[0]), (4, 7));
 }

@@ -1,0 +1,48 @@
+ghost use Rattle.std.specs.Prelude.{◌≡◌, vec_len, IfNone, IfOk};
+
+use outside::FileDisk;
+use std::fs::File;
+use std::io::{self, ErrorKind};
+use std::rt::Files;
+
+/// How many bytes the file of a disk has.
+const DISK_LEN: u64 = 67_108_864;
+
+/// Takes a leading `--store DIR` off the words, and gives DIR.
+pub fn take_store(words: &mut Vec<String>) -> Option<String>
+    ensures none { IfNone result (words.new.items ≡ words.old.items) }
+{
+    if words.len() >= 2 && words[0].as_str() == "--store" {
+        let folder = words.remove(1);
+        let _ = words.remove(0);
+        return Some(folder);
+    }
+    None
+}
+
+/// Opens the sixteen disks `disk0` to `disk15` of a folder. A file that is missing is made, with zeros; one
+/// that is there keeps its bytes.
+pub fn open_disks(rt: &HostRuntime, folder: &str) -> io::Result<Vec<FileDisk>>
+    ensures { IfOk result (λ disks. vec_len disks ≡ 16) }
+{
+    let mut disks = Vec::new(rt.alloc());
+    for index in 0..16u8 {
+        let path = format!(in rt.alloc(); "{folder}/disk{index}")?;
+        disks.push(FileDisk::new(open_file(rt, path.as_str())?))?;
+    }
+    Ok(disks)
+}
+
+fn open_file(rt: &HostRuntime, path: &str) -> io::Result<File> {
+    let mut options = File::options();
+    options.read(true).write(true);
+    match options.open(rt, path) {
+        Err(error) if error.kind() == ErrorKind::NotFound => {
+            options.create_new(true);
+            let file = options.open(rt, path)?;
+            file.set_len(DISK_LEN)?;
+            Ok(file)
+        }
+        outcome => outcome,
+    }
+}

@@ -2,7 +2,7 @@
 use Rattle.std.proofs.Common.{◌≡◌, ◌<◌, ◌≤◌, ◌+◌, ℕ, zero, suc, List, [], ◌∷◌, ◌++◌, Option, Some, None, length, get_or, drop, map, refl, sym, ◌∙◌, ap, arith}
 use Rattle.std.proofs.lemmas.List.{length-map, get_or-map, get_or-take, get_or-drop, get_or_default, same_lists, map-append, length-take-le, length-drop}
 use Rattle.outside.specs.Disk.{disk_len, part, FitsWhole, settles}
-use Rattle.outside.specs.Cells.{blank, blanks, settle_cell, content_of, kept_of}
+use Rattle.outside.specs.Cells.{blank, blanks, settle_cell, content_of, kept_of, Cycled}
 use Rattle.outside.specs.Pages.{page_cells, cells}
 use Rattle.outside.specs.declared.cell.Cell.{Cell}
 use Rattle.outside.specs.declared.page.Page.{Page}
@@ -49,3 +49,14 @@ settled_at (x ∷ bytes) (suc k) b is = settled_at bytes k b is
 -- a content, all of it settled
 pub fits_whole : (bytes : List ℕ) → length bytes ≡ disk_len → FitsWhole bytes
 fits_whole bytes size = record { size = size; image = record { size = sym (length-map bytes (λ b. Some b)); same = settled_at bytes } }
+
+-- what is settled stays so
+pub settled_again : (xs : List Cell) → map settle_cell (map settle_cell xs) ≡ map settle_cell xs
+settled_again [] = refl
+settled_again (x ∷ xs) = ap (λ (l : List Cell). settle_cell x ∷ l) (settled_again xs)
+
+-- a power cycle leaves nothing dirty
+pub cycled_settled : (choice : ℕ) (old new : List Cell) → Cycled choice old new → map settle_cell new ≡ new
+cycled_settled choice old new c =
+    let size = c.size in
+    sym (map_is settle_cell new new blank blank refl (λ k lt. let e = c.each k (omega arith) in e ∙ sym (ap settle_cell e)))

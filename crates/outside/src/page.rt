@@ -1,5 +1,5 @@
 // A page of a disk in memory.
-ghost use Rattle.std.specs.Prelude.{◌≡◌, ◌<◌, length, slice_set, slice_index_or, IfOk, map};
+ghost use Rattle.std.specs.Prelude.{◌≡◌, ◌<◌, false, length, slice_set, slice_index_or, IfOk, map};
 ghost use Rattle.outside.specs.Cells.{page_len, blank, blanks, written, settle_cell, cycle_cell, keeps, Cycled};
 
 use crate::cell::Cell;
@@ -8,11 +8,13 @@ use std::alloc::{AllocError as Memory, Global};
 /// The bytes of a page.
 pub const PAGE_LEN: usize = 65_536;
 
-/// The cells of a page.
+/// The cells of a page, and whether one of them may be dirty.
 #[derive(Drop)]
 pub struct Page {
     pub cells: Vec<Cell>,
+    pub dirty: bool,
     ghost size: { length cells.items ≡ page_len },
+    ghost clean: { dirty ≡ false → map settle_cell cells.items ≡ cells.items },
 }
 
 impl Page {
@@ -22,14 +24,18 @@ impl Page {
     {
         Ok(Page {
             cells: blank_cells(alloc, PAGE_LEN)?,
+            dirty: false,
         })
     }
 
-    /// Settles each cell.
+    /// Settles each cell. A page without a dirty cell is left as it is.
     pub fn settle(&mut self)
         ensures { self.new.cells.items ≡ map settle_cell self.old.cells.items }
     {
-        settle_cells(&mut self.cells);
+        if self.dirty {
+            settle_cells(&mut self.cells);
+            self.dirty = false;
+        }
     }
 
     /// Settles each cell at the byte that a power cycle leaves.
@@ -37,6 +43,7 @@ impl Page {
         ensures { Cycled choice self.old.cells.items self.new.cells.items }
     {
         cycle_cells(&mut self.cells, choice);
+        self.dirty = false;
     }
 
     /// Writes a byte over a cell, which becomes dirty.
@@ -45,6 +52,7 @@ impl Page {
         ensures { self.new.cells.items ≡ slice_set self.old.cells.items at (written (slice_index_or self.old.cells.items at blank) byte) }
     {
         let settled = self.cells[at].settled;
+        self.dirty = true;
         self.cells[at] = Cell {
             content: byte,
             settled,

@@ -4,7 +4,7 @@ use Rattle.std.specs.Prelude.{Bool, true, not, is_some}
 use Rattle.std.proofs.lemmas.Bool.{true≢false, cases_lt}
 use Rattle.std.proofs.lemmas.List.{get_or_append_left, get_or-append-add, set-append_left, set-append_right, length-replicate, get_or-replicate}
 use Rattle.outside.specs.Cells.{blank, blanks, page_len}
-use Rattle.outside.specs.Pages.{page_cells, cells, HasPages, HasRange}
+use Rattle.outside.specs.Pages.{page_cells, cells, HasPages, HasRange, MakesOnly}
 use Rattle.outside.specs.declared.cell.Cell.{Cell}
 use Rattle.outside.specs.declared.page.Page.{Page}
 
@@ -72,3 +72,19 @@ page_there pages at n p there some low high = ⊎_elim
     (λ lt. let here : at / page_len ≡ p = omega arith in ap (λ (q : ℕ). is_some (get_or pages q None)) (sym here) ∙ there at (omega arith) (omega arith))
     (λ le. let here : p * page_len / page_len ≡ p = omega arith in ap (λ (q : ℕ). is_some (get_or pages q None)) (sym here) ∙ there (p * page_len) le (omega arith))
     (cases_lt (p * page_len) at)
+
+-- a page that has no place of a range is in front of its pages or behind them
+pub page_apart : (at n p : ℕ) → ((k : ℕ) → at ≤ k → k < at + n → k / page_len ≡ p → ⊥) → 0 < n → at / page_len ≤ p → p < (at + n - 1) / page_len + 1 → ⊥
+page_apart at n p far some low high = ⊎_elim
+    (λ lt. far at (omega arith) (omega arith) (omega arith))
+    (λ le. far (p * page_len) le (omega arith) (omega arith))
+    (cases_lt (p * page_len) at)
+
+pub only_made : (old new : List (Option Page)) (at n q : ℕ) → 0 < n → q ≤ (at + n - 1) / page_len + 1 → ((p : ℕ) → p < at / page_len → is_some (get_or new p None) ≡ is_some (get_or old p None)) → ((p : ℕ) → q ≤ p → is_some (get_or new p None) ≡ is_some (get_or old p None)) → MakesOnly at n old new
+only_made old new at n q some high below above p far = ⊎_elim
+    (λ lt. below p lt)
+    (λ le. ⊎_elim
+    (λ lt. absurd (page_apart at n p far some le (omega arith)))
+    (λ past. above p past)
+    (cases_lt p q))
+    (cases_lt p (at / page_len))

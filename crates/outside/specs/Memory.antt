@@ -34,6 +34,10 @@ SamePages old new = (k : ℕ) → has_page new k ≡ has_page old k
 abbrev pub KeepsPages : MemoryDisk → MemoryDisk → Type 0
 KeepsPages old new = (k : ℕ) → IsTrue (has_page old k) → IsTrue (has_page new k)
 
+-- no page is made but those that have a place of a range
+abbrev pub MakesOnly : ℕ → ℕ → MemoryDisk → MemoryDisk → Type 0
+MakesOnly at n old new = (k : ℕ) → ((j : ℕ) → at ≤ j → j < at + n → j / page_len ≡ k / page_len → ⊥) → has_page new k ≡ has_page old k
+
 -- no byte changes, and no page is made
 pub record SameBytes (old new : MemoryDisk) : Type 0 where
   pub content : (seen new).content ≡ (seen old).content
@@ -56,6 +60,7 @@ pub record IsRefused {T E : Type 0} (at n : ℕ) (result : Result T E) (old new 
   pub settled : (seen new).settled ≡ (seen old).settled
   pub under : under new ≡ under old
   pub pages : KeepsPages old new
+  pub only : MakesOnly at n old new
   pub missing : ((k : ℕ) → at ≤ k → k < at + n → IsTrue (has_page old k)) → ⊥
   pub counted : account new ≡ refusing (burnt (called true (account old)))
 
@@ -67,6 +72,7 @@ pub record IsPut {T E : Type 0} (at : ℕ) (bytes : List ℕ) (result : Result T
   pub dirty : (k : ℕ) → at ≤ k → k < at + length bytes → slice_index_or (seen new).settled k None ≡ None
   pub under : under new ≡ under old
   pub pages : KeepsPages old new
+  pub only : MakesOnly at (length bytes) old new
   pub made : (k : ℕ) → at ≤ k → k < at + length bytes → IsTrue (has_page new k)
   pub counted : account new ≡ burnt (called (is_err result) (account old))
 

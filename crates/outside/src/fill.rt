@@ -2,7 +2,7 @@
 ghost use Rattle.std.specs.Prelude.{◌≡◌, ◌+◌, ◌*◌, ◌-◌, ◌/◌, ◌<◌, ◌≤◌, ℕ, length, slice_set, slice_index, slice_index_or, IfOk, OnOk, OnErr, IsSome, None, IsTrue, is_some, true, map};
 ghost use Rattle.outside.specs.Disk.{ChangesOnly, disk_len, part};
 ghost use Rattle.outside.specs.Cells.{page_len, blank, written, settle_cell, content_of, Cycled};
-ghost use Rattle.outside.specs.Pages.{cells, page_cells, HasPages, HasRange, Overwrites};
+ghost use Rattle.outside.specs.Pages.{cells, page_cells, HasPages, HasRange, MakesOnly, Overwrites};
 
 use crate::page::{PAGE_LEN, Page};
 use crate::pages::{cell_at, make_page, put_at};
@@ -20,6 +20,7 @@ pub fn make_range(
     ensures cells { cells pages.new.items ≡ cells pages.old.items }
     ensures count { length pages.new.items ≡ length pages.old.items }
     ensures kept { HasPages pages.old.items pages.new.items }
+    ensures only { MakesOnly at n pages.old.items pages.new.items }
     ensures there { OnOk result (HasRange pages.new.items at n) }
     ensures missing { OnErr result (HasRange pages.old.items at n → ⊥) }
 {
@@ -39,7 +40,7 @@ pub fn put_range(pages: &mut Vec<Option<Page>>, at: usize, from: &[u8])
     requires there { HasRange pages.old.items at (length from.now) }
     ensures cells { Overwrites at from.now (cells pages.old.items) (cells pages.new.items) }
     ensures count { length pages.new.items ≡ length pages.old.items }
-    ensures kept { HasPages pages.old.items pages.new.items }
+    ensures same { (p : ℕ) → is_some (slice_index_or pages.new.items p None) ≡ is_some (slice_index_or pages.old.items p None) }
 {
     for (i, byte) in from.iter().enumerate() {
         put_at(pages, at + i, *byte);

@@ -30,7 +30,8 @@ pub fn put_at(pages: &mut Vec<Option<Page>>, at: usize, byte: u8)
     requires within { at < length pages.old.items * page_len }
     requires there { is_some (slice_index_or pages.old.items (at / page_len) None) ≡ true }
     ensures cells { cells pages.new.items ≡ slice_set (cells pages.old.items) at (written (slice_index_or (cells pages.old.items) at blank) byte) }
-    ensures same { HasPages pages.old.items pages.new.items }
+    ensures same { (p : ℕ) → is_some (slice_index_or pages.new.items p None) ≡ is_some (slice_index_or pages.old.items p None) }
+    ensures count { length pages.new.items ≡ length pages.old.items }
 {
     match &mut pages[at / PAGE_LEN] {
         None => unreachable!(),
@@ -43,6 +44,8 @@ pub fn make_page(alloc: Global, pages: &mut Vec<Option<Page>>, p: usize) -> Resu
     requires { p < length pages.old.items }
     ensures cells { cells pages.new.items ≡ cells pages.old.items }
     ensures same { HasPages pages.old.items pages.new.items }
+    ensures below { (q : ℕ) → q < p → is_some (slice_index_or pages.new.items q None) ≡ is_some (slice_index_or pages.old.items q None) }
+    ensures above { (q : ℕ) → p < q → is_some (slice_index_or pages.new.items q None) ≡ is_some (slice_index_or pages.old.items q None) }
     ensures there { OnOk result (is_some (slice_index_or pages.new.items p None) ≡ true) }
     ensures missing { OnErr result (is_some (slice_index_or pages.old.items p None) ≡ false) }
 {

@@ -8,5 +8,7 @@ abbrev pub invariant-loop-p : goal.invariant-loop-p
 invariant-loop-p l = record {
   cells : cells l.pages.items ≡ cells l.initial.pages.items;
   kept : HasPages l.initial.pages.items l.pages.items;
+  below : (p : ℕ) → p < l.at / page_len → is_some (get_or l.pages.items p None) ≡ is_some (get_or l.initial.pages.items p None);
+  above : (p : ℕ) → l.p ≤ p → is_some (get_or l.pages.items p None) ≡ is_some (get_or l.initial.pages.items p None);
   there : (p : ℕ) → l.at / page_len ≤ p → p < l.p → is_some (get_or l.pages.items p None) ≡ true;
 }

@@ -44,7 +44,8 @@ returns-clause-ends c =
       content = content_put c.args.at c.args.from.now old new over within;
       dirty = dirty_over c.args.at c.args.from.now old new over within;
       under = under_over c.args.at c.args.from.now old new over within;
-      pages = λ k h. c.put_range.ensures.kept.each _ (c.make_range.ensures.kept.each _ h);
-      made = λ k le lt. c.put_range.ensures.kept.each _ (there k le lt);
+      pages = λ k h. c.put_range.ensures.same _ ∙ c.make_range.ensures.kept.each _ h;
+      only = λ k far. c.put_range.ensures.same _ ∙ c.make_range.ensures.only _ far;
+      made = λ k le lt. c.put_range.ensures.same _ ∙ there k le lt;
       counted = c.burn-2.ensures.counted;
     }))

@@ -1,15 +1,13 @@
 -- What a session keeps, and what a command makes of it.
-use Rattle.std.specs.Prelude.{◌≡◌, ℕ, Bool, true, false, List, [], ◌∷◌, ◌++◌, Option, Some, None, refl}
+use Rattle.std.specs.Prelude.{ℕ, Bool, true, false, List, [], ◌∷◌, ◌++◌, Option, Some, None, refl}
 use Rattle.std.specs.Option.{option_map}
 use Rattle.std.specs.List.{flat_map}
 use Rattle.std.specs.Coded.{Coded, code_by, coded×, coded_ℕ, coded_list, coded_bool, coded_option}
-use Rattle.fid_space.specs.declared.fid.Fid.{Fid}
-use Rattle.tree_model.specs.Tree.{Tree, Grown, base, coded_grown, coded_fid}
+use Rattle.tree_model.specs.Tree.{Tree, Grown, base, coded_grown}
 use Rattle.tree_model.specs.Step.{step}
 use Rattle.tree_model.specs.History.{Item}
 use Rattle.tree_model.specs.Participants.{participants}
-use Rattle.tree_model.specs.declared.op.Op.{Op}
-use Rattle.tree_model.specs.declared.op.Op.TheVariants.{Create}
+use Rattle.tree_model.specs.Codes.{coded_request}
 use Rattle.tree_model.specs.declared.op.Request.{Request}
 use Rattle.scenario_text.specs.declared.line.Line.{Line}
 use Rattle.scenario_text.specs.declared.line.Line.TheVariants as lines
@@ -73,18 +71,6 @@ lines_after k commands.Tree = tree_lines k.tree
 lines_after k commands.End = lines.EndClean ∷ []
 
 -- how the values are told apart
-abbrev pub op_parts : Op → Fid × (List ℕ × Fid)
-op_parts (Create p x f) = (p, (x, f))
-
-abbrev pub op_again : (o : Op) → Create (op_parts o).0 (op_parts o).1.0 (op_parts o).1.1 ≡ o
-op_again (Create p x f) = refl
-
-abbrev pub coded_op : Coded Op
-coded_op = code_by (Fid × (List ℕ × Fid)) (coded× coded_fid (coded× (coded_list coded_ℕ) coded_fid)) op_parts (λ p. Create p.0 p.1.0 p.1.1) op_again
-
-abbrev pub coded_request : Coded Request
-coded_request = code_by (ℕ × (ℕ × Op)) (coded× coded_ℕ (coded× coded_ℕ coded_op)) (λ r. (r.number, (r.client, r.op))) (λ p. record { number = p.0; client = p.1.0; op = p.1.1 }) (λ _. refl)
-
 abbrev pub coded_kept : Coded Kept
 coded_kept = code_by (Option Grown × (Bool × (List Request × ℕ))) (coded× (coded_option coded_grown) (coded× coded_bool (coded× (coded_list coded_request) coded_ℕ)))
     (λ k. (k.tree, (k.ended, (k.waiting, k.last)))) (λ p. record { tree = p.0; ended = p.1.0; waiting = p.1.1.0; last = p.1.1.1 }) (λ _. refl)

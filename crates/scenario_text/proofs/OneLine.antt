@@ -1,18 +1,16 @@
 -- A command's spelling is one line: it has no line feed, and it isn't empty.
-use Rattle.std.proofs.Common.{◌≡◌, ◌≢◌, ◌==◌, ◌<◌, ◌^◌, ℕ, Option, true, List, [], ◌∷◌, codes, refl, sym, ap, ◌∙◌, subst, arith}
+use Rattle.std.proofs.Common.{◌≡◌, ◌≢◌, ◌==◌, ◌<◌, ◌^◌, ℕ, Option, List, [], ◌∷◌, codes, refl, sym, ap, ◌∙◌, arith}
 use Rattle.std.specs.List.{slice_split, join_with_byte, AllByRecursion}
 use Rattle.std.specs.Fmt.{decimal}
-use Rattle.std.proofs.lemmas.Bool.{false≢true}
 use Rattle.std.proofs.lemmas.Fmt.{decimal_is_IsNumeral}
 use Rattle.fid_space.specs.declared.fid.Fid.{Fid}
 use Rattle.fid_space.specs.FidText.{fid_text, hex, IsFid}
 use Rattle.fid_space.proofs.Splitting.{Lacks, lacks_by_test, lacks_append, lacks_digits}
 use Rattle.fid_space.proofs.FidTexts.{lacks_hex}
-use Rattle.tree_model.specs.Names.{is_plain}
 use Rattle.tree_model.specs.OpText.{IsOp, op_words}
 use Rattle.tree_model.specs.declared.op.Op.{Op}
 use Rattle.tree_model.specs.declared.op.Op.TheVariants.{Create}
-use Rattle.tree_model.proofs.OpTexts.{plain_word}
+use Rattle.tree_model.proofs.Spellings.{name_lacks}
 use Rattle.scenario_text.specs.Spelling.{IsCommand, spelling, words_of}
 use Rattle.scenario_text.specs.declared.command.Command.{Command}
 use Rattle.scenario_text.specs.declared.command.Command.TheVariants as commands
@@ -24,16 +22,12 @@ fid_lacks f h =
     (lacks_append 10 (codes ":0x") _ (lacks_by_test 10 (codes ":0x") refl) (lacks_append 10 (hex f.oid) _ (lacks_hex 10 f.oid (omega (arith, h.1)) (omega arith))
     (lacks_append 10 (codes ":0x") _ (lacks_by_test 10 (codes ":0x") refl) (lacks_append 10 (hex f.ver) _ (lacks_hex 10 f.ver (omega (arith, h.2)) (omega arith)) (lacks_by_test 10 (codes "]") refl))))))
 
-plain_lacks : (name : List ℕ) → AllByRecursion (λ b. is_plain b ≡ true) name → Lacks 10 name
-plain_lacks [] h = tt
-plain_lacks (b ∷ name) h = ((λ (e : b ≡ 10). absurd (false≢true (sym (ap is_plain e) ∙ h.0))), plain_lacks name h.1)
-
 digits_lack : (n : ℕ) → n < 2 ^ 64 → Lacks 10 (decimal n)
 digits_lack n low = lacks_digits 10 10 (omega arith) (decimal n) (decimal_is_IsNumeral n low).0.1
 
 op_lacks : (n : ℕ) (o : Op) → IsOp n o → AllByRecursion (λ w. Lacks 10 w) (op_words o)
 op_lacks n (Create p x f) h =
-    (lacks_by_test 10 (codes "create") refl, (fid_lacks p h.0.0, (subst (λ w. Lacks 10 w) (sym (plain_word x h.1.1)) (plain_lacks x h.1.1), (fid_lacks f h.2.0, tt))))
+    (lacks_by_test 10 (codes "create") refl, (fid_lacks p h.0.0, (name_lacks 10 x (omega arith), (fid_lacks f h.2.0, tt))))
 
 words_lack : (a : Option ℕ) (c : Command) → IsCommand a c → AllByRecursion (λ w. Lacks 10 w) (words_of c)
 words_lack a (commands.Cluster n) h = (lacks_by_test 10 (codes "cluster") refl, (digits_lack n (omega (arith, h)), tt))

@@ -1,11 +1,10 @@
 -- Two scenarios through the definitions, down to the bytes.
-use Rattle.std.proofs.Common.{◌≡◌, ◌≢◌, cond, true, false, Some, None, List, [], ◌∷◌, ◌++◌, length, codes, inl, IsSome, refl, sym, ap, ◌∙◌, arith}
+use Rattle.std.proofs.Common.{◌≡◌, cond, true, false, Some, None, List, [], ◌∷◌, ◌++◌, length, codes, inl, IsSome, refl, sym, ap, ◌∙◌, arith}
 use Rattle.std.specs.declared.cmp.Ordering.{Ordering}
 use Rattle.std.specs.Ordering.{eq_by_cmp}
 use Rattle.std.specs.List.{flat_map}
 use Rattle.std.specs.Fmt.{digits}
 use Rattle.std.specs.FinMap.{entries, empty, get, len, put, get-empty, get-insert, entries-insert, len-entries, len-empty}
-use Rattle.std.proofs.lemmas.List.Elements.{All-cons, All-nil}
 use Rattle.fid_space.specs.declared.fid.Fid.{Fid}
 use Rattle.tree_model.specs.declared.plain_tree.Node.{Node}
 use Rattle.tree_model.specs.declared.plain_tree.EntryKey.{EntryKey}
@@ -18,7 +17,8 @@ use Rattle.tree_model.specs.Tree.{Tree, base, fid_cmp, entry_cmp, entry_key, roo
 use Rattle.tree_model.specs.Step.{step, first_fault, client_fault, parent_fault, taken_fault, create_fault, checked, added}
 use Rattle.tree_model.specs.History.{Item, tree_of}
 use Rattle.tree_model.specs.Participants.{participants}
-use Rattle.tree_model.specs.OpText.{IsPlaced, IsPlainName}
+use Rattle.tree_model.specs.OpText.{IsPlaced}
+use Rattle.tree_model.specs.Names.{IsName}
 use Rattle.tree_model.specs.TreeText.{tree_text, tree_head, node_text, entry_text}
 use Rattle.tree_model.proofs.Maps.{fids_total, entries_total}
 use Rattle.scenario_text.specs.declared.command.Command.TheVariants as commands
@@ -122,8 +122,8 @@ root_placed = ((omega arith, omega arith, omega arith), refl)
 file_placed : IsPlaced 1 file_fid
 file_placed = ((omega arith, omega arith, omega arith), refl)
 
-name_plain : IsPlainName (codes "a")
-name_plain = ((omega arith, omega arith, All-cons (λ b. (b ≢ 0) × (b ≢ 0x2f)) 97 [] ((λ e. cc), (λ e. cc)) (All-nil (λ b. (b ≢ 0) × (b ≢ 0x2f))), (λ e. cc), (λ e. cc)), (refl, tt))
+name_plain : IsName (codes "a")
+name_plain = (omega arith, omega arith, (omega arith, tt), (((λ e. cc), (λ e. cc)), tt), (λ e. cc), (λ e. cc))
 
 on_home : 1 ≡ participants 1 create replies.Ok
 on_home = refl

@@ -1,35 +1,21 @@
 -- No two operations have one text.
-use Rattle.std.proofs.Common.{◌≡◌, ◌≢◌, ◌==◌, ℕ, true, false, List, [], ◌∷◌, ◌++◌, codes, cond, ◌/◌, ◌%◌, Result, Ok, Err, IfOk, subst, refl, sym, ap, ◌∙◌}
+use Rattle.std.proofs.Common.{◌≡◌, ◌≢◌, ◌==◌, ℕ, List, [], ◌∷◌, codes, Result, Ok, Err, IfOk, refl, sym, ap, ◌∙◌, arith}
 use Rattle.std.specs.List.{slice_split, join_with_byte, AllByRecursion}
-use Rattle.std.specs.Fmt.{digit_glyph}
-use Rattle.std.proofs.lemmas.Bool.{false≢true}
 use Rattle.std.proofs.lemmas.List.Splits.{join_with_byte-slice_split}
 use Rattle.fid_space.specs.FidText.{fid_text}
 use Rattle.fid_space.proofs.Splitting.{Lacks, lacks_by_test, split_join}
 use Rattle.fid_space.proofs.FidTexts.{one_fid, no_space}
-use Rattle.tree_model.specs.Names.{name_word, is_plain}
+use Rattle.tree_model.specs.Names.{name_word}
 use Rattle.tree_model.specs.OpText.{IsOp, op_words, op_text}
 use Rattle.tree_model.specs.declared.op.Op.{Op}
 use Rattle.tree_model.specs.declared.op.Op.TheVariants.{Create}
 use Rattle.tree_model.specs.declared.op.OpFault.{OpFault}
-
--- a name of plain bytes stands for itself
-pub plain_word : (name : List ℕ) → AllByRecursion (λ b. is_plain b ≡ true) name → name_word name ≡ name
-plain_word [] h = refl
-plain_word (b ∷ name) h =
-    ap (λ t. cond t (b ∷ []) (0x25 ∷ digit_glyph false (b / 16) ∷ digit_glyph false (b % 16) ∷ []) ++ name_word name) h.0 ∙ ap (λ x. b ∷ x) (plain_word name h.1)
-
-not_plain : is_plain 32 ≡ false
-not_plain = refl
-
-plain_lacks : (name : List ℕ) → AllByRecursion (λ b. is_plain b ≡ true) name → Lacks 32 name
-plain_lacks [] h = tt
-plain_lacks (b ∷ name) h = ((λ (e : b ≡ 32). absurd (false≢true (sym (ap is_plain e) ∙ h.0))), plain_lacks name h.1)
+use Rattle.tree_model.proofs.Spellings.{one_name, name_lacks}
 
 -- no word of an operation has a space
 pub op_lacks : (n : ℕ) (o : Op) → IsOp n o → AllByRecursion (λ w. Lacks 32 w) (op_words o)
 op_lacks n (Create p x f) h =
-    (lacks_by_test 32 (codes "create") refl, (no_space p h.0.0, (subst (λ w. Lacks 32 w) (sym (plain_word x h.1.1)) (plain_lacks x h.1.1), (no_space f h.2.0, tt))))
+    (lacks_by_test 32 (codes "create") refl, (no_space p h.0.0, (name_lacks 32 x (omega arith), (no_space f h.2.0, tt))))
 
 -- the words of a text are the operation's
 pub cut_op : (n : ℕ) (o : Op) → IsOp n o → slice_split (λ x. x == 32) (op_text o) ≡ op_words o
@@ -41,7 +27,7 @@ op_injective m n (Create p x f) (Create q y g) h k e =
     let names : name_word x ≡ name_word y = cc in
     let fids : fid_text f ≡ fid_text g = cc in
     let a = one_fid p q h.0.0 k.0.0 parents in
-    let b = sym (plain_word x h.1.1) ∙ names ∙ plain_word y k.1.1 in
+    let b = one_name x y h.1.2 k.1.2 names in
     let c = one_fid f g h.2.0 k.2.0 fids in
     λ i. Create (a i) (b i) (c i)
 

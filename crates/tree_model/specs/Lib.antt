@@ -6,3 +6,4 @@ pub mod Participants
 pub mod OpText
 pub mod ReplyText
 pub mod TreeText
+pub mod Codes

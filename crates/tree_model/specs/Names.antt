@@ -1,11 +1,15 @@
 -- What may name an entry, and how a name is spelled in a text.
-use Rattle.std.specs.Prelude.{◌≢◌, ℕ, ◌≤◌, ◌/◌, ◌%◌, ◌&&◌, ◌==◌, Bool, false, not, nat_le, List, [], ◌∷◌, length, codes, All, if◌then◌else◌}
-use Rattle.std.specs.List.{flat_map}
+use Rattle.std.specs.Prelude.{◌≢◌, ℕ, ◌≤◌, ◌<◌, ◌/◌, ◌%◌, ◌&&◌, ◌==◌, Bool, false, not, nat_le, List, [], ◌∷◌, length, codes, if◌then◌else◌}
+use Rattle.std.specs.List.{flat_map, AllByRecursion}
 use Rattle.std.specs.Fmt.{digit_glyph}
+
+abbrev pub AreBytes : List ℕ → Type 0
+AreBytes n = AllByRecursion (λ b. b < 256) n
 
 -- 1 to 255 bytes without NUL and `/`, and neither `.` nor `..`
 abbrev pub IsName : List ℕ → Type 0
-IsName n = (1 ≤ length n) × (length n ≤ 255) × All (λ b. (b ≢ 0) × (b ≢ 0x2f)) n × (n ≢ codes ".") × (n ≢ codes "..")
+IsName n =
+    (1 ≤ length n) × (length n ≤ 255) × AreBytes n × AllByRecursion (λ b. (b ≢ 0) × (b ≢ 0x2f)) n × (n ≢ codes ".") × (n ≢ codes "..")
 
 -- a byte that stands for itself in a spelled name: 0x21 to 0x7e, but for `%`
 abbrev pub is_plain : ℕ → Bool

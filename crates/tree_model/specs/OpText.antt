@@ -1,10 +1,10 @@
 -- The one text of an operation: its words, parted by one space.
 use Rattle.std.specs.Prelude.{◌≡◌, ℕ, true, List, [], ◌∷◌, codes}
-use Rattle.std.specs.List.{join_with_byte, AllByRecursion}
+use Rattle.std.specs.List.{join_with_byte}
 use Rattle.fid_space.specs.declared.fid.Fid.{Fid}
 use Rattle.fid_space.specs.FidText.{fid_text, IsFid}
 use Rattle.fid_space.specs.Places.{has_place}
-use Rattle.tree_model.specs.Names.{IsName, name_word, is_plain}
+use Rattle.tree_model.specs.Names.{IsName, name_word}
 use Rattle.tree_model.specs.declared.op.Op.{Op}
 use Rattle.tree_model.specs.declared.op.Op.TheVariants.{Create}
 
@@ -18,10 +18,6 @@ op_text op = join_with_byte 32 (op_words op)
 abbrev pub IsPlaced : ℕ → Fid → Type 0
 IsPlaced targets f = IsFid f × (has_place targets f ≡ true)
 
--- a name that a text may have: no byte of it needs an escape
-abbrev pub IsPlainName : List ℕ → Type 0
-IsPlainName name = IsName name × AllByRecursion (λ b. is_plain b ≡ true) name
-
 -- what has a text, in a cluster of so many targets
 abbrev pub IsOp : ℕ → Op → Type 0
-IsOp targets (Create parent name fid) = IsPlaced targets parent × IsPlainName name × IsPlaced targets fid
+IsOp targets (Create parent name fid) = IsPlaced targets parent × IsName name × IsPlaced targets fid

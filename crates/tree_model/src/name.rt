@@ -1,5 +1,6 @@
-ghost use Rattle.std.specs.Prelude.{◌≡◌, ◌↔◌, ◌≤◌, IsTrue, IfOk, OnOk, IsErrOf};
-ghost use Rattle.tree_model.specs.Names.{IsName};
+ghost use Rattle.std.specs.Prelude.{◌≡◌, ◌≢◌, ◌↔◌, ◌≤◌, IsTrue, IfOk, OnOk, IsErrOf};
+ghost use Rattle.std.specs.List.{AllByRecursion};
+ghost use Rattle.tree_model.specs.Names.{AreBytes, IsName};
 ghost use Rattle.std.proofs.Common.{rules};
 ghost use Rattle.std.specs.Cmp.{partial_order_from_own_ties};
 ghost use Rattle.std.specs.Cmp.Rules.{comparing};
@@ -77,9 +78,21 @@ fn is_name(bytes: &[u8]) -> bool
 {
     1 <= bytes.len()
         && bytes.len() <= 255
-        && bytes.iter().all(|b| *b != 0 && *b != 0x2f)
+        && have_no_end(bytes)
         && bytes != b".".as_slice()
         && bytes != b"..".as_slice()
+}
+
+/// Whether no byte is NUL or `/`, which end a name in a path.
+fn have_no_end(bytes: &[u8]) -> bool
+    ensures { IsTrue result ↔ (AreBytes bytes.now × AllByRecursion (λ b. (b ≢ 0) × (b ≢ 0x2f)) bytes.now) }
+{
+    for b in bytes {
+        if *b == 0 || *b == 0x2f {
+            return false;
+        }
+    }
+    true
 }
 
 impl PartialEq for Name {

@@ -1,14 +1,13 @@
 ghost use Rattle.std.specs.Prelude.{◌≡◌, ◌≢◌, ◌++◌, ◌∷◌, [], ◌↔◌, ℕ, List, true, map, IsTrue, IfOk, IsErr, OnOk};
-ghost use Rattle.std.specs.List.{AllByRecursion};
 ghost use Rattle.fid_space.specs.FidText.{fid_text};
 ghost use Rattle.fid_space.specs.declared.fid.Fid.{Fid};
-ghost use Rattle.tree_model.specs.Names.{is_plain, name_word};
-ghost use Rattle.tree_model.specs.OpText.{op_words, op_text, IsOp, IsPlaced, IsPlainName};
+ghost use Rattle.tree_model.specs.Names.{IsName, name_word};
+ghost use Rattle.tree_model.specs.OpText.{op_words, op_text, IsOp, IsPlaced};
 ghost use Rattle.tree_model.specs.declared.op.Op.{Op};
 
 use crate::name::{Name, NameFault};
 use crate::reading::words;
-use crate::spelling::print_name;
+use crate::spelling::{print_name, spelled};
 use fid_space::{Bytes, Cluster, Fid, locate};
 use std::alloc::{AllocError as Memory, Global};
 
@@ -23,7 +22,7 @@ pub enum Op {
 /// Why a text is no operation.
 #[derive(Clone, Copy, Debug, PartialEq, Eq)]
 pub enum OpFault {
-    /// It is no text of an operation that is known so far; a name with an escape isn't known yet.
+    /// It is no text of an operation that is known so far.
     NotYet,
     /// Memory ran out.
     Memory,
@@ -102,7 +101,7 @@ fn create_of(
         return Err(OpFault::NotYet);
     }
     let parent = placed_fid(parent, cluster)?;
-    let name = plain_name(alloc, name)?;
+    let name = name_of(alloc, name)?;
     let fid = placed_fid(fid, cluster)?;
     Ok(Op::Create { parent, name, fid })
 }
@@ -123,28 +122,19 @@ fn placed_fid(word: &[u8], cluster: Cluster) -> Result<Fid, OpFault>
     }
 }
 
-/// Reads a name that has no escape.
-fn plain_name(alloc: Global, word: &[u8]) -> Result<Name, OpFault>
-    ensures ok { IfOk result (λ name. IsPlainName name × (word.now ≡ name_word name)) }
-    ensures refused { result ≡ Err OpFault.NotYet → (name : List ℕ) → IsPlainName name → word.now ≢ name_word name }
+/// Reads the name that a word spells.
+fn name_of(alloc: Global, word: &[u8]) -> Result<Name, OpFault>
+    ensures ok { IfOk result (λ name. IsName name × (word.now ≡ name_word name)) }
+    ensures refused { result ≡ Err OpFault.NotYet → (name : List ℕ) → IsName name → word.now ≢ name_word name }
 {
-    if !is_plain_name(word) {
-        return Err(OpFault::NotYet);
-    }
-    match Name::new(alloc, word) {
+    let bytes = match spelled(alloc, word) {
+        Ok(Some(bytes)) => bytes,
+        Ok(None) => return Err(OpFault::NotYet),
+        Err(_) => return Err(OpFault::Memory),
+    };
+    match Name::new(alloc, bytes.as_slice()) {
         Ok(name) => Ok(name),
         Err(NameFault::BadName) => Err(OpFault::NotYet),
         Err(NameFault::Memory) => Err(OpFault::Memory),
     }
-}
-
-fn is_plain_name(name: &[u8]) -> bool
-    ensures { IsTrue result ↔ AllByRecursion (λ b. is_plain b ≡ true) name.now }
-{
-    for b in name {
-        if !(0x21 <= *b && *b <= 0x7e && *b != 0x25) {
-            return false;
-        }
-    }
-    true
 }

@@ -183,11 +183,6 @@ fn reads_no_other_text(rt: HostRuntime) -> Result<(), Fail> {
             false,
         ),
         (
-            "create [0x200000007:0x1:0x0] a%20 [0x200000400:0x1:0x0]",
-            1,
-            false,
-        ),
-        (
             "create [0x200000007:0x1:0x0] a\t [0x200000400:0x1:0x0]",
             1,
             false,
@@ -221,6 +216,48 @@ fn reads_no_other_text(rt: HostRuntime) -> Result<(), Fail> {
         };
         let want = if taken { Ok(()) } else { Err(OpFault::NotYet) };
         assert_eq!(rt; got, want, "{text}");
+    }
+    Ok(())
+}
+
+#[test]
+fn reads_spelled_names(rt: HostRuntime) -> Result<(), Fail> {
+    let alloc = rt.alloc();
+    let rows = [
+        (
+            "A%20%25~%7f%fe",
+            [0x41, 0x20, 0x25, 0x7e, 0x7f, 0xfe].as_slice(),
+        ),
+        ("%0a", b"\n".as_slice()),
+        ("%ff%80", &[0xff, 0x80]),
+        ("%2", b"".as_slice()),
+        ("%", b"".as_slice()),
+        ("a%", b"".as_slice()),
+        ("%41", b"".as_slice()),
+        ("%7e", b"".as_slice()),
+        ("%7F", b"".as_slice()),
+        ("%0A", b"".as_slice()),
+        ("%g0", b"".as_slice()),
+        ("%%25", b"".as_slice()),
+        ("%00", b"".as_slice()),
+        ("a%2fb", b"".as_slice()),
+        ("%2e", b"".as_slice()),
+        ("\u{e9}", b"".as_slice()),
+    ];
+    for (word, bytes) in rows {
+        let text = format!(in alloc; "create [0x200000007:0x1:0x0] {word} [0x200000400:0x1:0x0]")?;
+        match read(alloc, text.as_bytes(), 1) {
+            Ok(op) => {
+                let mut out = Bytes::new(alloc);
+                op.print(&mut out)?;
+                assert_eq!(rt; out.bytes(), text.as_bytes());
+                let Op::Create { name, .. } = op;
+                assert_eq!(rt; name.bytes(), bytes, "{word}");
+            }
+            Err(fault) => {
+                assert!(rt; bytes.is_empty() && fault == OpFault::NotYet, "{word}");
+            }
+        }
     }
     Ok(())
 }

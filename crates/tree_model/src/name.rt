@@ -58,7 +58,8 @@ impl Name {
 
     /// Lends the bytes, without escapes.
     pub fn bytes(&self) -> &[u8]
-        ensures { result.now ≡ self.now }
+        ensures bytes { result.now ≡ self.now }
+        ensures is_name { IsName self.now }
     {
         self.inner.as_slice()
     }

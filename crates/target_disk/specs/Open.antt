@@ -37,6 +37,6 @@ pub record Formats (disk store : Shown) (image : List ℕ) : Type 0 where
 
 -- each answer other than Ok, with its cause and the disk that it gives back; `Memory` never comes
 abbrev pub FailsToFormat : {D : Type 0} → (D → Shown) → D → ℕ → FormatFault D → Type 0
-FailsToFormat shown old size (format_fault.Disk disk) = Stays (shown old) (shown disk) × Rose (shown old).faults (shown disk).faults × (size ≤ slot_len) × (IsTrue (shown old).honest → (shown disk).failed ≡ true)
+FailsToFormat shown old size (format_fault.Disk disk) = Stays (shown old) (shown disk) × ((shown old).faults ≤ (shown disk).faults) × Rose (shown old).faults (shown disk).faults × (size ≤ slot_len) × (IsTrue (shown old).honest → (shown disk).failed ≡ true)
 FailsToFormat shown old size (format_fault.Full disk len) = (disk ≡ old) × (slot_len < size) × (size ≡ 16 + len)
 FailsToFormat shown old size (format_fault.Memory disk) = ⊥

@@ -1,15 +1,14 @@
 -- No line of a scenario in the grammar is refused, and it doesn't lack its end.
-use Rattle.std.proofs.Common.{◌≡◌, ◌≢◌, ◌≤◌, ◌+◌, ℕ, List, [], ◌∷◌, ◌++◌, length, ◌⊎◌, inl, inr, Option, Some, None, refl, sym, ap, ◌∙◌, subst, append_assoc, append-nil, length-append, arith}
+use Rattle.std.proofs.Common.{◌≡◌, ◌≢◌, ◌≤◌, ◌+◌, ℕ, true, List, [], ◌∷◌, ◌++◌, length, ◌⊎◌, inl, inr, Option, Some, None, refl, sym, ap, ◌∙◌, subst, append_assoc, append-nil, length-append, arith}
 use Rattle.std.specs.List.{AllByRecursion}
 use Rattle.std.specs.Io.KnownBytes.{Consumes, IsAtEnd}
 use Rattle.std.proofs.lemmas.Bool.{false≢true}
-use Rattle.scenario_text.specs.Spelling.{spelling}
-use Rattle.scenario_text.specs.Machine.{Asked, Group, nothing_asked, start, AreTaken, IsTaken, IsRefused, asked_after, asked_all, commands_of, scenario}
-use Rattle.scenario_text.specs.declared.command.Command.{Command}
-use Rattle.scenario_text.proofs.OneSpelling.{one_command}
-use Rattle.scenario_text.proofs.OneLine.{one_line, not_empty}
+use Rattle.outside.specs.Disk.{Shown}
+use Rattle.scenario_text.specs.Spelling.{Entry, Skip, Order, NoFeed, line_of}
+use Rattle.scenario_text.specs.Machine.{Asked, Group, nothing_asked, start, AreTaken, IsTaken, IsRefused, asked_after, asked_all, entries_of, scenario}
+use Rattle.scenario_text.proofs.OneLine.{entry_line, one_entry, not_empty}
 use Rattle.scenario_text.proofs.Runs.{run_asked, run_taken}
-use Rattle.dne_cli.specs.Transcript.{NoFeed, Closes, IsWhole, RefusesLine, LacksEnd, Outcome, IsScenario}
+use Rattle.dne_cli.specs.Transcript.{Closes, IsWhole, RefusesLine, LacksEnd, Outcome, IsScenario}
 use Rattle.dne_cli.specs.Words.{code_of}
 use Rattle.dne_cli.specs.declared.status.Status.{Status}
 use Rattle.dne_cli.specs.declared.status.Status.TheVariants.{Done, Refused, Memory, Source, Sink}
@@ -48,29 +47,29 @@ nothing [] (x ∷ f) t e = cc
 nothing (x ∷ l) f t e = cc
 
 -- a scenario's first line
-first_line : (c : Command) (cs : List Command) (rest : List ℕ) → scenario (c ∷ cs) ++ rest ≡ spelling c ++ 10 ∷ (scenario cs ++ rest)
-first_line c cs rest = append_assoc (spelling c ++ 10 ∷ []) (scenario cs) rest ∙ append_assoc (spelling c) (10 ∷ []) (scenario cs ++ rest)
+first_line : (c : Entry) (cs : List Entry) (rest : List ℕ) → scenario (c ∷ cs) ++ rest ≡ line_of c ++ 10 ∷ (scenario cs ++ rest)
+first_line c cs rest = append_assoc (line_of c ++ 10 ∷ []) (scenario cs) rest ∙ append_assoc (line_of c) (10 ∷ []) (scenario cs ++ rest)
 
-first_alone : (c : Command) (cs : List Command) → scenario (c ∷ cs) ≡ spelling c ++ 10 ∷ scenario cs
-first_alone c cs = append_assoc (spelling c) (10 ∷ []) (scenario cs)
+first_alone : (c : Entry) (cs : List Entry) → scenario (c ∷ cs) ≡ line_of c ++ 10 ∷ scenario cs
+first_alone c cs = append_assoc (line_of c) (10 ∷ []) (scenario cs)
 
 not_none : (x a : List ℕ) → x ++ 10 ∷ a ≢ []
 not_none [] a = λ e. cc
 not_none (z ∷ x) a = λ e. cc
 
 -- the rest of the commands, where some of them stand in front
-pub record Follows (a : Asked) (ds cs : List Command) (rest : List ℕ) : Type 0 where
-  pub others : List Command
+pub record Follows (a : Asked) (ds cs : List Entry) (rest : List ℕ) : Type 0 where
+  pub others : List Entry
   pub all : cs ≡ ds ++ others
   pub spelled : scenario others ≡ rest
   pub taken : AreTaken (asked_all a ds) others
 
-follows : (a : Asked) (ds cs : List Command) (rest : List ℕ) → AreTaken a ds → AreTaken a cs → scenario ds ++ rest ≡ scenario cs → Follows a ds cs rest
+follows : (a : Asked) (ds cs : List Entry) (rest : List ℕ) → AreTaken a ds → AreTaken a cs → scenario ds ++ rest ≡ scenario cs → Follows a ds cs rest
 follows a [] cs rest p q e = record { others = cs; all = refl; spelled = sym e; taken = q }
-follows a (d ∷ ds) [] rest p q e = absurd (not_none (spelling d) (scenario ds ++ rest) (sym (first_line d ds rest) ∙ e))
+follows a (d ∷ ds) [] rest p q e = absurd (not_none (line_of d) (scenario ds ++ rest) (sym (first_line d ds rest) ∙ e))
 follows a (d ∷ ds) (c ∷ cs) rest p q e =
-    let split = feed_ends (spelling d) (spelling c) (scenario ds ++ rest) (scenario cs) (one_line a.cluster d p.0.0) (one_line a.cluster c q.0.0) (sym (first_line d ds rest) ∙ e ∙ first_alone c cs) in
-    let same : d ≡ c = one_command a.cluster a.cluster d c p.0.0 q.0.0 split.0 in
+    let split = feed_ends (line_of d) (line_of c) (scenario ds ++ rest) (scenario cs) (entry_line a.cluster d p.0.0) (entry_line a.cluster c q.0.0) (sym (first_line d ds rest) ∙ e ∙ first_alone c cs) in
+    let same : d ≡ c = one_entry a.cluster a.cluster d c p.0.0 q.0.0 split.0 in
     let next = follows (asked_after a d) ds cs rest p.1 (subst (λ x. AreTaken (asked_after a x) cs) (sym same) q.1) split.1 in
     record { others = next.others; all = ap (λ x. x ∷ cs) (sym same) ∙ ap (λ l. d ∷ l) next.all; spelled = next.spelled; taken = next.taken }
 
@@ -78,9 +77,9 @@ all_after : {X : Type 0} (P : X → Type 0) (xs : List X) (x : X) (ys : List X) 
 all_after P [] x ys h = h.0
 all_after P (w ∷ xs) x ys h = all_after P xs x ys h.1
 
-commands-length : (gs : List Group) → length (commands_of gs) ≡ length gs
-commands-length [] = refl
-commands-length (g ∷ gs) = let e = commands-length gs in omega (arith, e)
+entries-length : (gs : List Group) → length (entries_of gs) ≡ length gs
+entries-length [] = refl
+entries-length (g ∷ gs) = let e = entries-length gs in omega (arith, e)
 
 IsExtra : List ℕ → Type 0
 IsExtra x = (x ≡ []) ⊎ (x ≡ 10 ∷ [])
@@ -92,30 +91,30 @@ closed_bytes A bytes whole (inl e) = ([], inl refl, e ∙ sym (append-nil bytes)
 closed_bytes A bytes whole (inr e) = (10 ∷ [], inr refl, e.1)
 
 -- a line of the scenario isn't refused for what it spells
-spelled_right : (A : Type 0) (a : Asked) (e : Command) (es : List Command) (line feed tail left x : List ℕ) → NoFeed line → IsExtra x → (A → left ≡ []) → IsTaken a e → scenario (e ∷ es) ≡ line ++ (feed ++ (tail ++ (left ++ x)))
+spelled_right : (A : Type 0) (a : Asked) (e : Entry) (es : List Entry) (line feed tail left x : List ℕ) → NoFeed line → IsExtra x → (A → left ≡ []) → IsTaken a e → scenario (e ∷ es) ≡ line ++ (feed ++ (tail ++ (left ++ x)))
     → IsWhole A line feed tail → IsRefused a line → ⊥
 unfolding IsExtra
 spelled_right A a e es line feed tail left x clean extra ended taken is (inl fed) refused =
-    let same = feed_ends (spelling e) line (scenario es) (tail ++ (left ++ x)) (one_line a.cluster e taken.0) clean (sym (first_alone e es) ∙ is ∙ ap (λ f. line ++ (f ++ (tail ++ (left ++ x)))) fed) in
+    let same = feed_ends (line_of e) line (scenario es) (tail ++ (left ++ x)) (entry_line a.cluster e taken.0) clean (sym (first_alone e es) ∙ is ∙ ap (λ f. line ++ (f ++ (tail ++ (left ++ x)))) fed) in
     refused e taken (sym same.0)
 spelled_right A a e es line feed tail left x clean extra ended taken is (inr (none, last, end)) refused =
-    let short : spelling e ++ 10 ∷ scenario es ≡ line ++ x =
+    let short : line_of e ++ 10 ∷ scenario es ≡ line ++ x =
     sym (first_alone e es) ∙ is ∙ ap (λ f. line ++ (f ++ (tail ++ (left ++ x)))) none ∙ ap (λ t. line ++ (t ++ (left ++ x))) last ∙ ap (λ l. line ++ (l ++ x)) (ended end) in
     elim extra [
-      | inl n ↦ has_feed (spelling e) line (scenario es) clean (sym (short ∙ ap (λ t. line ++ t) n ∙ append-nil line))
-      | inr f ↦ refused e taken (sym (feed_ends (spelling e) line (scenario es) [] (one_line a.cluster e taken.0) clean (short ∙ ap (λ t. line ++ t) f)).0)
+      | inl n ↦ has_feed (line_of e) line (scenario es) clean (sym (short ∙ ap (λ t. line ++ t) n ∙ append-nil line))
+      | inr f ↦ refused e taken (sym (feed_ends (line_of e) line (scenario es) [] (entry_line a.cluster e taken.0) clean (short ∙ ap (λ t. line ++ t) f)).0)
     ]
 
-module _ (A : Type 0) (bytes read left text : List ℕ) (ended : A → left ≡ []) (is : bytes ≡ read ++ left) (s : IsScenario bytes) where
-  not_refused : RefusesLine A read text → ⊥
+module _ (A : Type 0) (first disk : Shown) (bytes read left text : List ℕ) (ended : A → left ≡ []) (is : bytes ≡ read ++ left) (s : IsScenario bytes) where
+  not_refused : RefusesLine A first disk read text → ⊥
   not_refused r =
-      let closed = closed_bytes (Unit {0}) bytes (scenario s.commands) s.closes in
+      let closed = closed_bytes (Unit {0}) bytes (scenario s.entries) s.closes in
       let x = closed.0 in
       let p = r.place in
-      let ds = commands_of p.groups in
+      let ds = entries_of p.groups in
       let done : r.done ≡ scenario ds = p.whole ∙ ap (λ l. scenario ds ++ l) r.closed ∙ append-nil (scenario ds) in
       let more : List ℕ = r.line ++ (r.feed ++ (r.tail ++ (left ++ x))) in
-      let whole : scenario ds ++ more ≡ scenario s.commands =
+      let whole : scenario ds ++ more ≡ scenario s.entries =
       ap (λ l. l ++ more) (sym done)
       ∙ sym (
       closed.2 ∙ ap (λ l. l ++ x) (is ∙ ap (λ l. l ++ left) r.split)
@@ -123,87 +122,101 @@ module _ (A : Type 0) (bytes read left text : List ℕ) (ended : A → left ≡ 
       ∙ append_assoc r.done (r.line ++ (r.feed ++ r.tail)) (left ++ x)
       ∙ ap (λ l. r.done ++ l) (append_assoc r.line (r.feed ++ r.tail) (left ++ x) ∙ ap (λ l. r.line ++ l) (append_assoc r.feed r.tail (left ++ x)))
       ) in
-      let f = follows nothing_asked ds s.commands more (run_taken p.groups start p.state p.run) s.taken whole in
+      let f = follows nothing_asked ds s.entries more (run_taken p.groups (start first.honest) p.state p.run) s.taken whole in
       with_next r x closed.1 f.others f.all f.spelled f.taken
     where
-      sizes : (r : RefusesLine A read text) → length r.done + length r.line + length r.feed ≤ 67108864
+      sizes : (r : RefusesLine A first disk read text) → length r.done + length r.line + length r.feed ≤ 67108864
       sizes r =
           let all : bytes ≡ (r.done ++ (r.line ++ (r.feed ++ r.tail))) ++ left = is ∙ ap (λ l. l ++ left) r.split in
           omega (arith, s.short, ap length all, length-append (r.done ++ (r.line ++ (r.feed ++ r.tail))) left, length-append r.done (r.line ++ (r.feed ++ r.tail)), length-append r.line (r.feed ++ r.tail), length-append r.feed r.tail)
 
-      with_next : (r : RefusesLine A read text) (x : List ℕ) → IsExtra x → (es : List Command) → s.commands ≡ commands_of r.place.groups ++ es → scenario es ≡ r.line ++ (r.feed ++ (r.tail ++ (left ++ x)))
-          → AreTaken (asked_all nothing_asked (commands_of r.place.groups)) es → ⊥
+      with_next : (r : RefusesLine A first disk read text) (x : List ℕ) → IsExtra x → (es : List Entry) → s.entries ≡ entries_of r.place.groups ++ es → scenario es ≡ r.line ++ (r.feed ++ (r.tail ++ (left ++ x)))
+          → AreTaken (asked_all nothing_asked (entries_of r.place.groups)) es → ⊥
       with_next r x extra [] all spelled taken = r.begun (nothing r.line r.feed (r.tail ++ (left ++ x)) spelled)
       with_next r x extra (e ∷ es) all spelled taken =
-          let asked = run_asked r.place.groups start r.place.state r.place.run in
+          let asked = run_asked r.place.groups (start first.honest) r.place.state r.place.run in
           let size = sizes r in
-          let lines : length s.commands ≡ length r.place.groups + (length es + 1) =
-          (let a = ap length all in let b = length-append (commands_of r.place.groups) (e ∷ es) in let d = commands-length r.place.groups in omega (arith, a, b, d)) in
+          let lines : length s.entries ≡ length r.place.groups + (length es + 1) =
+          (let a = ap length all in let b = length-append (entries_of r.place.groups) (e ∷ es) in let d = entries-length r.place.groups in omega (arith, a, b, d)) in
           elim r.cause [
             | inl (inl number) ↦ omega (arith, number, lines, s.few)
             | inl (inr (inl long)) ↦
-                let one = no_longer (spelling e) r.line (scenario es) (r.feed ++ (r.tail ++ (left ++ x))) r.one_line (sym spelled ∙ first_alone e es) in
-                let most = all_after (λ c. length (spelling c) ≤ 16384) (commands_of r.place.groups) e es (subst (λ l. AllByRecursion (λ c. length (spelling c) ≤ 16384) l) all s.lines_short) in
+                let one = no_longer (line_of e) r.line (scenario es) (r.feed ++ (r.tail ++ (left ++ x))) r.one_line (sym spelled ∙ first_alone e es) in
+                let most = all_after (λ c. length (line_of c) ≤ 16384) (entries_of r.place.groups) e es (subst (λ l. AllByRecursion (λ c. length (line_of c) ≤ 16384) l) all s.lines_short) in
                 omega (arith, long, one, most)
             | inl (inr (inr total)) ↦ omega (arith, total, size)
             | inr (fed, refused) ↦
-                spelled_right A (asked_all nothing_asked (commands_of r.place.groups)) e es r.line r.feed r.tail left x r.one_line extra ended taken.0 spelled fed
+                spelled_right A (asked_all nothing_asked (entries_of r.place.groups)) e es r.line r.feed r.tail left x r.one_line extra ended taken.0 spelled fed
                 (subst (λ a. IsRefused a r.line) asked refused)
           ]
 
-  no_line : (es : List Command) (a : Asked) → AreTaken a es → scenario es ≡ 10 ∷ [] → ⊥
-  no_line [] a taken e = cc
-  no_line (c ∷ cs) a taken e = not_empty a.cluster c taken.0.0 (feed_ends (spelling c) [] (scenario cs) [] (one_line a.cluster c taken.0.0) tt (sym (first_alone c cs) ∙ e)).0
-
-  none_left : (es : List Command) → scenario es ≡ [] → es ≡ []
+  none_left : (es : List Entry) → scenario es ≡ [] → es ≡ []
   none_left [] e = refl
-  none_left (c ∷ cs) e = absurd (not_none (spelling c) (scenario cs) (sym (first_alone c cs) ∙ e))
+  none_left (c ∷ cs) e = absurd (not_none (line_of c) (scenario cs) (sym (first_alone c cs) ∙ e))
 
-  not_lacking : LacksEnd A read text → ⊥
+  -- one more line feed is one empty line
+  empty_line : (es : List Entry) (a : Asked) → AreTaken a es → scenario es ≡ 10 ∷ [] → es ≡ Skip [] ∷ []
+  empty_line [] a taken e = cc
+  empty_line (Skip line ∷ cs) a taken e =
+      let split = feed_ends line [] (scenario cs) [] (entry_line a.cluster (Skip line) taken.0.0) tt (sym (first_alone (Skip line) cs) ∙ e) in
+      ap (λ x. Skip x ∷ cs) split.0 ∙ ap (λ x. Skip [] ∷ x) (none_left cs split.1)
+  empty_line (Order c ∷ cs) a taken e =
+      absurd (not_empty a.cluster c taken.0.0 (feed_ends (line_of (Order c)) [] (scenario cs) [] (entry_line a.cluster (Order c) taken.0.0) tt (sym (first_alone (Order c) cs) ∙ e)).0)
+
+  asked_all-append : (a : Asked) (ds es : List Entry) → asked_all a (ds ++ es) ≡ asked_all (asked_all a ds) es
+  asked_all-append a [] es = refl
+  asked_all-append a (d ∷ ds) es = asked_all-append (asked_after a d) ds es
+
+  not_lacking : LacksEnd A first disk read text → ⊥
   unfolding IsExtra
   not_lacking l =
       let p = l.place in
-      let ds = commands_of p.groups in
+      let ds = entries_of p.groups in
       let here = closed_bytes A read l.whole l.closes in
-      let there = closed_bytes (Unit {0}) bytes (scenario s.commands) s.closes in
+      let there = closed_bytes (Unit {0}) bytes (scenario s.entries) s.closes in
       let all : bytes ≡ read = is ∙ ap (λ t. read ++ t) (ended l.at_end) ∙ append-nil read in
       let mine : scenario ds ≡ read ++ here.0 = sym (p.whole ∙ ap (λ t. scenario ds ++ t) l.closed ∙ append-nil (scenario ds)) ∙ here.2 in
-      let yours : scenario s.commands ≡ read ++ there.0 = there.2 ∙ ap (λ t. t ++ there.0) all in
-      let taken = run_taken p.groups start p.state p.run in
+      let yours : scenario s.entries ≡ read ++ there.0 = there.2 ∙ ap (λ t. t ++ there.0) all in
+      let taken = run_taken p.groups (start first.honest) p.state p.run in
       elim here.1 [
         | inl none ↦ elim there.1 [
           | inl also ↦ same_end l (mine ∙ ap (λ t. read ++ t) (none ∙ sym also) ∙ sym yours)
           | inr feed ↦
-              let f = follows nothing_asked ds s.commands (10 ∷ []) taken s.taken (ap (λ t. t ++ 10 ∷ []) (mine ∙ ap (λ t. read ++ t) none ∙ append-nil read) ∙ sym (yours ∙ ap (λ t. read ++ t) feed)) in
-              no_line f.others (asked_all nothing_asked ds) f.taken f.spelled
+              let f = follows nothing_asked ds s.entries (10 ∷ []) taken s.taken (ap (λ t. t ++ 10 ∷ []) (mine ∙ ap (λ t. read ++ t) none ∙ append-nil read) ∙ sym (yours ∙ ap (λ t. read ++ t) feed)) in
+              let one = empty_line f.others (asked_all nothing_asked ds) f.taken f.spelled in
+              let over : (asked_all nothing_asked ds).ended ≡ true = ap (λ x. (asked_all (asked_all nothing_asked ds) x).ended) (sym one) ∙ ap (λ (x : Asked). x.ended) (sym (asked_all-append nothing_asked ds f.others)) ∙ ap (λ x. (asked_all nothing_asked x).ended) (sym f.all) ∙ s.ended in
+              let asked = run_asked p.groups (start first.honest) p.state p.run in
+              false≢true (sym l.open_end ∙ ap (λ (a : Asked). a.ended) asked ∙ over)
         ]
         | inr feed ↦ elim there.1 [
           | inl none ↦
-              let f = follows nothing_asked s.commands ds (10 ∷ []) s.taken taken (ap (λ t. t ++ 10 ∷ []) (yours ∙ ap (λ t. read ++ t) none ∙ append-nil read) ∙ sym (mine ∙ ap (λ t. read ++ t) feed)) in
-              no_line f.others (asked_all nothing_asked s.commands) f.taken f.spelled
+              let f = follows nothing_asked s.entries ds (10 ∷ []) s.taken taken (ap (λ t. t ++ 10 ∷ []) (yours ∙ ap (λ t. read ++ t) none ∙ append-nil read) ∙ sym (mine ∙ ap (λ t. read ++ t) feed)) in
+              let one = empty_line f.others (asked_all nothing_asked s.entries) f.taken f.spelled in
+              let more : AreTaken (asked_all nothing_asked s.entries) (Skip [] ∷ []) = subst (AreTaken (asked_all nothing_asked s.entries)) one f.taken in
+              false≢true (sym more.0.1 ∙ s.ended)
           | inr also ↦ same_end l (mine ∙ ap (λ t. read ++ t) (feed ∙ sym also) ∙ sym yours)
         ]
       ]
     where
-      same_end : (l : LacksEnd A read text) → scenario (commands_of l.place.groups) ≡ scenario s.commands → ⊥
+      same_end : (l : LacksEnd A first disk read text) → scenario (entries_of l.place.groups) ≡ scenario s.entries → ⊥
       same_end l e =
-          let ds = commands_of l.place.groups in
-          let f = follows nothing_asked ds s.commands [] (run_taken l.place.groups start l.place.state l.place.run) s.taken (append-nil (scenario ds) ∙ e) in
-          let one : s.commands ≡ ds = f.all ∙ ap (λ es. ds ++ es) (none_left f.others f.spelled) ∙ append-nil ds in
-          let asked = run_asked l.place.groups start l.place.state l.place.run in
+          let ds = entries_of l.place.groups in
+          let f = follows nothing_asked ds s.entries [] (run_taken l.place.groups (start first.honest) l.place.state l.place.run) s.taken (append-nil (scenario ds) ∙ e) in
+          let one : s.entries ≡ ds = f.all ∙ ap (λ es. ds ++ es) (none_left f.others f.spelled) ∙ append-nil ds in
+          let asked = run_asked l.place.groups (start first.honest) l.place.state l.place.run in
           false≢true (sym l.open_end ∙ ap (λ (a : Asked). a.ended) asked ∙ ap (λ cs. (asked_all nothing_asked cs).ended) (sym one) ∙ s.ended)
 
 -- a scenario in the grammar isn't refused
-not_stopped : (old new : Option (List ℕ)) (bytes read text : List ℕ) → old ≡ Some bytes → Consumes old new read → IsScenario bytes → Outcome (IsAtEnd new) Refused read text → ⊥
-not_stopped None new bytes read text e c s o = cc
-not_stopped (Some xs) None bytes read text e c s o = absurd c
-not_stopped (Some xs) (Some left) bytes read text e c s (inl r) = let same : bytes ≡ xs = cc in not_refused (left ≡ []) bytes read left text (λ h. h) (same ∙ c) s r
-not_stopped (Some xs) (Some left) bytes read text e c s (inr l) = let same : bytes ≡ xs = cc in not_lacking (left ≡ []) bytes read left text (λ h. h) (same ∙ c) s l
+not_stopped : (first disk : Shown) (old new : Option (List ℕ)) (bytes read text : List ℕ) → old ≡ Some bytes → Consumes old new read → IsScenario bytes → Outcome (IsAtEnd new) first disk Refused read text → ⊥
+not_stopped first disk None new bytes read text e c s o = cc
+not_stopped first disk (Some xs) None bytes read text e c s o = absurd c
+not_stopped first disk (Some xs) (Some left) bytes read text e c s (inl r) = let same : bytes ≡ xs = cc in not_refused (left ≡ []) first disk bytes read left text (λ h. h) (same ∙ c) s r
+not_stopped first disk (Some xs) (Some left) bytes read text e c s (inr l) = let same : bytes ≡ xs = cc in not_lacking (left ≡ []) first disk bytes read left text (λ h. h) (same ∙ c) s l
 
-pub completes : (old new : Option (List ℕ)) (bytes read text : List ℕ) (status : Status) → old ≡ Some bytes → Consumes old new read → IsScenario bytes → Outcome (IsAtEnd new) status read text
+pub completes : (first disk : Shown) (old new : Option (List ℕ)) (bytes read text : List ℕ) (status : Status) → old ≡ Some bytes → Consumes old new read → IsScenario bytes → Outcome (IsAtEnd new) first disk status read text
     → (status ≡ Source → ⊥) → (status ≡ Sink → ⊥) → (code_of status ≡ 0) ⊎ (code_of status ≡ 3)
-completes old new bytes read text Done e c s o source sink = inl refl
-completes old new bytes read text Refused e c s o source sink = absurd (not_stopped old new bytes read text e c s o)
-completes old new bytes read text Memory e c s o source sink = inr refl
-completes old new bytes read text Source e c s o source sink = absurd (source refl)
-completes old new bytes read text Sink e c s o source sink = absurd (sink refl)
+completes first disk old new bytes read text Done e c s o source sink = inl refl
+completes first disk old new bytes read text Refused e c s o source sink = absurd (not_stopped first disk old new bytes read text e c s o)
+completes first disk old new bytes read text Memory e c s o source sink = inr refl
+completes first disk old new bytes read text Source e c s o source sink = absurd (source refl)
+completes first disk old new bytes read text Sink e c s o source sink = absurd (sink refl)

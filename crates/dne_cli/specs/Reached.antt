@@ -1,62 +1,128 @@
 -- How far a player has come, for its own contracts.
-use Rattle.std.specs.Prelude.{◌≡◌, ◌≢◌, ◌<◌, ◌≤◌, ◌⊎◌, ◌+◌, length, ℕ, List, [], ◌∷◌, ◌++◌, map, Option, None}
-use Rattle.std.specs.Option.{option_map}
-use Rattle.tree_model.specs.Tree.{Grown}
+use Rattle.std.specs.Prelude.{◌≡◌, ◌≢◌, ◌<◌, ◌≤◌, ◌⊎◌, ◌+◌, ◌==◌, max, length, take, ℕ, true, false, IsTrue, List, [], ◌∷◌, ◌++◌, Option, Some, None, IfSome, if◌then◌else◌}
+use Rattle.std.specs.List.{AllByRecursion}
+use Rattle.outside.specs.Disk.{Shown, IsImage}
+use Rattle.target_disk.specs.Slots.{opened}
+use Rattle.target_disk.specs.Store.{IsSettled}
 use Rattle.tree_model.specs.History.{Item, tree_of}
 use Rattle.tree_model.specs.declared.op.Request.{Request}
-use Rattle.scenario_text.specs.Spelling.{IsCommand, spelling}
+use Rattle.scenario_text.specs.Spelling.{Entry, Skip, Order, IsCommand, IsSkipped, IsRequest, line_of}
 use Rattle.scenario_text.specs.LineText.{texts}
-use Rattle.scenario_text.specs.Machine.{State, highest, MayCome, HaveReplies, lines_of}
+use Rattle.scenario_text.specs.Machine.{Asked, State, Among, HasAnswer, MayStand, is_formatted, is_sent, lines_of, targets_of}
 use Rattle.scenario_text.specs.declared.line.Line.{Line}
-use Rattle.scenario_text.specs.declared.command.Command.{Command}
-use Rattle.dne_cli.specs.Kept.{Kept, cluster_of, kept_after, lines_after}
+use Rattle.scenario_text.specs.declared.line.Standing.{Standing}
+use Rattle.scenario_text.specs.declared.line.Standing.TheVariants.{Serving, Opened, Down}
+use Rattle.dne_cli.specs.Image.{items_bytes, image_of}
+use Rattle.dne_cli.specs.Kept.{Kept, Held, Ledger, Does, is_used, seat_of, standing_of}
 use Rattle.dne_cli.specs.Transcript.{Place, refusal}
 use Rattle.dne_cli.specs.declared.status.Stop.{Stop}
 use Rattle.dne_cli.specs.declared.status.Stop.TheVariants as stops
 use Rattle.dne_cli.specs.declared.status.Status.{Status}
 use Rattle.dne_cli.specs.declared.status.Status.TheVariants as statuses
 
--- each number is above those before it
-abbrev pub RisesFrom : ℕ → List Request → Type 0
-RisesFrom n [] = Unit {0}
-RisesFrom n (r ∷ rs) = (n < r.number) × RisesFrom r.number rs
+-- the greatest number of a client in a history, or 0
+abbrev pub greatest : ℕ → List Item → ℕ
+greatest client [] = 0
+greatest client (i ∷ h) = max (if i.request.client == client then i.request.number else 0) (greatest client h)
 
-abbrev pub requests_of : List Item → List Request
-requests_of history = map (λ (i : Item). i.request) history
+-- what a target that serves keeps of a history, of which these numbers aren't stable
+pub record Matches (targets : ℕ) (history : List Item) (pending : List ℕ) (l : Ledger) : Type 0 where
+  pub tree : l.tree ≡ record { targets = targets; tree = tree_of targets history }
+  pub count : l.count ≡ length history
+  pub bytes : l.bytes ≡ items_bytes history
+  pub size : length l.seats ≡ 256
+  pub seats : (client : ℕ) → client < 256 → seat_of l client ≡ greatest client history
+  pub pend : l.pend ≡ pending
 
--- the tree of the machine's state, with its cluster
-abbrev pub grown_of : State → Option Grown
-grown_of s = option_map (λ (n : ℕ). record { targets = n; tree = tree_of n s.history }) s.asked.cluster
+-- no item has the request's number
+abbrev pub IsFree : List Item → Request → Type 0
+IsFree h r = AllByRecursion (λ i. i.request.number ≢ r.number) h
 
--- what a session keeps of the machine's state, after these lines
-pub record Agrees (s : State) (said : List Line) (k : Kept) : Type 0 where
-  pub tree : k.tree ≡ grown_of s
-  pub ended : s.asked.ended ≡ k.ended
-  pub last : highest s.asked.sent ≡ k.last
-  pub sent : s.asked.sent ≡ requests_of s.history ++ k.waiting
-  pub rises : RisesFrom (highest (requests_of s.history)) k.waiting
-  pub replied : HaveReplies (requests_of s.history) said
-  pub first : s.asked.cluster ≡ None → s.history ≡ []
+-- requests with different numbers
+abbrev pub AreDistinct : List Request → Type 0
+AreDistinct [] = Unit {0}
+AreDistinct (r ∷ rs) = AllByRecursion (λ q. q.number ≢ r.number) rs × AreDistinct rs
+
+-- the commit of a front of a history, so long, by the end of so many lines of the scenario
+pub record StandsAt (last : ℕ) (history : List Item) (lines : ℕ) (disk : Shown) : Type 0 where
+  pub generation : ℕ
+  pub low : generation ≤ lines + 1
+  pub accepted : last ≤ length history
+  pub settled : IsSettled disk (record { generation = generation; bytes = image_of (take last history) })
+
+-- an image that opens as the commit of a front of a history, at least so long
+pub record OpensAsFront (last : ℕ) (history : List Item) (lines : ℕ) (image : List ℕ) : Type 0 where
+  pub generation : ℕ
+  pub low : generation ≤ lines + 1
+  pub count : ℕ
+  pub stable : last ≤ count
+  pub accepted : count ≤ length history
+  pub opens : opened image ≡ Some (record { generation = generation; bytes = image_of (take count history) })
+
+-- what a disk holds by the target's standing
+abbrev pub Stored : Standing → ℕ → List Item → ℕ → Shown → Type 0
+Stored Serving last history lines disk = StandsAt last history lines disk
+Stored Opened last history lines disk = StandsAt last history lines disk
+Stored Down last history lines disk = (image : List ℕ) → IsImage disk.settled image → OpensAsFront last history lines image
+
+-- what a session keeps of what was asked for and accepted, after these lines of the transcript
+pub record AsksSame (a : Asked) (history : List Item) (said : List Line) (k : Kept) : Type 0 where
+  pub cluster : k.cluster ≡ a.cluster
+  pub ended : k.ended ≡ a.ended
+  pub used : (n : ℕ) → n ≤ 65536 → is_used k.used n ≡ is_sent a.sent n
+  pub flags : length k.used ≡ 65537
+  pub one : (n : ℕ) → a.cluster ≡ Some n → n ≡ 1
+  pub requests : AllByRecursion (IsRequest (Some 1)) a.sent
+  pub accepted : AllByRecursion (λ i. Among a.sent i.request) history
+  pub wait : AllByRecursion (λ r. Among a.sent r) k.waiting
+  pub free : AllByRecursion (IsFree history) k.waiting
+  pub apart : AreDistinct k.waiting
+  pub answered : AllByRecursion (λ r. HasAnswer r.number said ⊎ Among k.waiting r) a.sent
+
+-- what a target keeps of the machine's state, after so many lines of the scenario
+pub record HoldsSame (s : State) (lines : ℕ) (h : Held) : Type 0 where
+  pub standing : s.standing ≡ standing_of h
+  pub formatted : is_formatted s ≡ h.formatted
+  pub up : (s.standing ≡ Down → ⊥) → h.formatted ≡ true
+  pub ledger : IfSome h.ledger (Matches (targets_of s) s.history s.pend)
+  pub counted : s.standing ≡ Serving → s.last + length s.pend ≡ length s.history
+  pub clean : s.clean ≡ true → (s.asked.ended ≡ true) × (s.standing ≡ Serving) × (s.pend ≡ [])
+  pub honest : s.honest ≡ h.disk.honest
+  pub new : s.asked.cluster ≡ None → (s.history ≡ []) × (s.pend ≡ []) × (s.last ≡ 0) × (h.formatted ≡ false) × (s.clean ≡ false)
+  pub fresh : h.formatted ≡ false → (s.history ≡ []) × (s.last ≡ 0)
+  pub stored : IsTrue s.honest → h.formatted ≡ true → Stored s.standing s.last s.history lines h.disk
+
+-- what a session keeps of the machine's state, after these lines of the transcript, and so many of the
+-- scenario
+pub record Agrees (s : State) (said : List Line) (lines : ℕ) (k : Kept) : Type 0 where
+  pub asks : AsksSame s.asked s.history said k
+  pub few : length s.history + length k.waiting ≤ lines
+  pub holds : HoldsSame s lines k.target
 
 -- a player has come to this place: so many ended lines, a rest, and so many bytes in all
-pub record Reached (bytes text : List ℕ) (k : Kept) (rest : List ℕ) (count total : ℕ) : Type 0 where
-  pub place : Place bytes text
+pub record Reached (first : Shown) (bytes text : List ℕ) (k : Kept) (rest : List ℕ) (count total : ℕ) : Type 0 where
+  pub place : Place first k.target.disk bytes text
   pub same : place.rest ≡ rest
   pub counted : length place.groups ≡ count
   pub measured : length bytes ≡ total
-  pub agrees : Agrees place.state (lines_of place.groups) k
+  pub agrees : Agrees place.state (lines_of place.groups) count k
 
--- the command may come to a session
-abbrev pub Comes : Kept → Command → Type 0
-Comes k c = IsCommand (cluster_of k) c × MayCome (cluster_of k) k.ended k.last c
+-- a line that is skipped, or a command that has a spelling
+abbrev pub IsSpelled : Option ℕ → Entry → Type 0
+IsSpelled cluster (Skip line) = IsSkipped line
+IsSpelled cluster (Order c) = IsCommand cluster c
 
--- the line is a command that may come, and this is what comes of it
+-- what may stand on a session's next line
+abbrev pub Stands : Kept → Entry → Type 0
+Stands k e = IsSpelled k.cluster e × MayStand k.cluster k.ended (is_used k.used) e
+
+-- the line stands, and this is what comes of it
 abbrev pub Takes : Kept → Kept → List ℕ → List ℕ → Type 0
-Takes old new line more = (c : Command) × Comes old c × (line ≡ spelling c) × (new ≡ kept_after old c) × (more ≡ texts (lines_after old c))
+Takes old new line more = (e : Entry) × (ls : List Line) × Stands old e × (line ≡ line_of e) × Does old e new ls × (more ≡ texts ls)
 
--- the line is none that may come
+-- nothing that may stand on the line is spelled so
 abbrev pub IsBad : Kept → List ℕ → Type 0
-IsBad k line = (c : Command) → Comes k c → line ≢ spelling c
+IsBad k line = (e : Entry) → Stands k e → line ≢ line_of e
 
 -- a line is refused before its next byte is taken
 abbrev pub IsFull : ℕ → ℕ → List ℕ → ℕ → Type 0
@@ -68,12 +134,12 @@ Told stops.Refused whole more = more ≡ whole
 Told stops.Memory whole more = more ≡ []
 Told stops.Sink whole more = (rest : List ℕ) × (whole ≡ more ++ rest)
 
--- what a player answers at a line
-abbrev pub StopsAt : Stop → Kept → List ℕ → ℕ → List ℕ → Type 0
-StopsAt stops.Refused k line count more = IsBad k line × (more ≡ refusal (count + 1))
-StopsAt stops.Memory k line count more = more ≡ []
-StopsAt stops.Sink k line count more = (whole : List ℕ) × (rest : List ℕ) × (whole ≡ more ++ rest)
-    × (((new : Kept) × Takes k new line whole) ⊎ (IsBad k line × (whole ≡ refusal (count + 1))))
+-- what a player answers at a line, from a session to a session
+abbrev pub StopsAt : Stop → Kept → Kept → List ℕ → ℕ → List ℕ → Type 0
+StopsAt stops.Refused k now line count more = IsBad k line × (now ≡ k) × (more ≡ refusal (count + 1))
+StopsAt stops.Memory k now line count more = more ≡ []
+StopsAt stops.Sink k now line count more = (whole : List ℕ) × (rest : List ℕ) × (whole ≡ more ++ rest)
+    × (Takes k now line whole ⊎ (IsBad k line × (now ≡ k) × (whole ≡ refusal (count + 1))))
 
 abbrev pub status_of : Stop → Status
 status_of stops.Refused = statuses.Refused

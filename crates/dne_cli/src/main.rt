@@ -7,14 +7,17 @@
 
 ghost use Rattle.std.specs.Prelude.{◌≡◌, vec_len, IfOk};
 
+mod image;
+mod ledger;
 mod player;
-mod serve;
 mod session;
 mod status;
 mod store;
+mod target;
 #[cfg(test)]
 mod tests;
 mod top;
+mod turns;
 
 use outside::{MemoryDisk, Plant, StreamSink, StreamSource};
 use std::alloc::{AllocError as Memory, Global};
@@ -46,7 +49,9 @@ fn memory_disks(alloc: Global) -> Result<Vec<MemoryDisk>, Memory>
 }
 
 /// Runs the program over standard input and output.
-fn run_over<D: Plant>(rt: &HostRuntime, words: &[String], mut disks: Vec<D>) -> u8 {
+fn run_over<D: Plant>(rt: &HostRuntime, words: &[String], mut disks: Vec<D>) -> u8
+    requires { vec_len disks ≡ 16 }
+{
     let mut input = StreamSource::new(rt.stdin());
     let mut output = StreamSink::new(rt.stdout());
     dne_main(rt.alloc(), words, &mut input, &mut output, &mut disks)

@@ -1,14 +1,15 @@
 ghost use Rattle.std.specs.Prelude.{◌≡◌, ◌≢◌, ◌++◌, ◌+◌, ◌<◌, ◌≤◌, ◌↔◌, length, ◌∷◌, [], ℕ, List, IfOk, OnOk, IfErr, IsTrue, is_some, Err};
 ghost use Rattle.std.specs.Io.KnownBytes.{Appends};
 ghost use Rattle.outside.specs.Causes.{Rose};
-ghost use Rattle.dne_cli.specs.Kept.{nothing_kept};
+ghost use Rattle.outside.specs.Disk.{Shown};
+ghost use Rattle.dne_cli.specs.Kept.{nothing_kept, Touches};
 ghost use Rattle.dne_cli.specs.Transcript.{Closes, Outcome, LacksEnd, refusal, no_end};
 ghost use Rattle.dne_cli.specs.Reached.{Reached, Takes, StopsAt, Told, IsFull, status_of};
 
 use crate::session::Session;
 use crate::status::{Status, Stop, status_of};
 use fid_space::Bytes;
-use outside::{Sink, put_all};
+use outside::{Plant, Sink, put_all};
 use scenario_text::TextFault;
 use std::alloc::{AllocError as Memory, Global};
 
@@ -24,9 +25,9 @@ const MOST_BYTES: u64 = 67_108_864;
 /// A scenario while its bytes come in: the session, the line that hasn't ended, and how many lines and
 /// bytes came before.
 #[derive(Drop)]
-pub struct Player {
+pub struct Player<D: Plant> {
     alloc: Global,
-    session: Session,
+    session: Session<D>,
     rest: Bytes,
     count: u64,
     total: u64,
@@ -34,32 +35,44 @@ pub struct Player {
     ghost limited: { total ≤ 67108864 },
 }
 
-impl Player {
-    /// A player that no byte has come to.
-    pub fn new(alloc: Global) -> Player
-        ensures session { result.session ≡ nothing_kept }
-        ensures rest { result.rest ≡ [] }
-        ensures count { result.count ≡ 0 }
-        ensures total { result.total ≡ 0 }
+impl<D: Plant> Player<D> {
+    /// A player over a disk, to which no byte has come. For want of memory the disk is given back.
+    pub fn new(alloc: Global, disk: D) -> Result<Player<D>, D>
+        ensures session { IfOk result (λ p. p.session ≡ nothing_kept (D.shown disk)) }
+        ensures rest { IfOk result (λ p. p.rest ≡ []) }
+        ensures count { IfOk result (λ p. p.count ≡ 0) }
+        ensures total { IfOk result (λ p. p.total ≡ 0) }
+        ensures err { IfErr result (λ d. D.shown d ≡ D.shown disk) }
     {
-        Player {
-            alloc,
-            session: Session::new(alloc),
-            rest: Bytes::new(alloc),
-            count: 0,
-            total: 0,
+        match Session::new(alloc, disk) {
+            Ok(session) => Ok(Player {
+                alloc,
+                session,
+                rest: Bytes::new(alloc),
+                count: 0,
+                total: 0,
+            }),
+            Err(disk) => Err(disk),
         }
+    }
+
+    /// Gives the disk back.
+    pub fn into_disk(self) -> D
+        ensures { D.shown result ≡ self.session.target.disk }
+    {
+        self.session.into_disk()
     }
 
     /// Runs the line that has come in, and writes what it prints.
     fn run_rest<O: Sink>(&mut self, output: &mut O) -> Result<(), Stop>
         requires { self.old.count < self.old.total }
+        ensures touches { Touches self.old.session.target.disk self.new.session.target.disk }
         ensures ok { OnOk result ((more : List ℕ) × Takes self.old.session self.new.session self.old.rest more
             × Appends (O.written output.old) (O.written output.new) more × (self.new.rest ≡ [])
             × (self.new.count ≡ self.old.count + 1)) }
         ensures same { self.new.total ≡ self.old.total }
         ensures stop { IfErr result (λ stop. (more : List ℕ) × Appends (O.written output.old) (O.written output.new) more
-            × StopsAt stop self.old.session self.old.rest self.old.count more) }
+            × StopsAt stop self.old.session self.new.session self.old.rest self.old.count more) }
         ensures later { O.sink_faults output.old ≤ O.sink_faults output.new }
         ensures sink { result ≡ Err Stop.Sink → Rose (O.sink_faults output.old) (O.sink_faults output.new) }
         ensures tells { is_some (O.written output.new) ≡ is_some (O.written output.old) }
@@ -90,15 +103,16 @@ impl Player {
 
     /// Takes one byte more.
     fn feed_byte<O: Sink>(&mut self, byte: u8, output: &mut O) -> Result<(), Stop>
-        ensures ok { OnOk result ((bytes text : List ℕ)
-            → Reached bytes text self.old.session self.old.rest self.old.count self.old.total
+        ensures touches { Touches self.old.session.target.disk self.new.session.target.disk }
+        ensures ok { OnOk result ((first : Shown) (bytes text : List ℕ)
+            → Reached first bytes text self.old.session self.old.rest self.old.count self.old.total
             → (more : List ℕ) × Appends (O.written output.old) (O.written output.new) more
-            × Reached (bytes ++ byte ∷ []) (text ++ more) self.new.session self.new.rest self.new.count self.new.total) }
+            × Reached first (bytes ++ byte ∷ []) (text ++ more) self.new.session self.new.rest self.new.count self.new.total) }
         ensures grows { OnOk result (self.new.total ≡ self.old.total + 1) }
-        ensures stop { IfErr result (λ stop. (bytes text : List ℕ)
-            → Reached bytes text self.old.session self.old.rest self.old.count self.old.total
+        ensures stop { IfErr result (λ stop. (first : Shown) (bytes text : List ℕ)
+            → Reached first bytes text self.old.session self.old.rest self.old.count self.old.total
             → (more : List ℕ) × Appends (O.written output.old) (O.written output.new) more
-            × Outcome ⊥ (status_of stop) (bytes ++ byte ∷ []) (text ++ more)) }
+            × Outcome ⊥ first self.new.session.target.disk (status_of stop) (bytes ++ byte ∷ []) (text ++ more)) }
         ensures later { O.sink_faults output.old ≤ O.sink_faults output.new }
         ensures sink { result ≡ Err Stop.Sink → Rose (O.sink_faults output.old) (O.sink_faults output.new) }
         ensures tells { is_some (O.written output.new) ≡ is_some (O.written output.old) }
@@ -121,15 +135,16 @@ impl Player {
 
     /// Takes the bytes of a piece.
     pub fn feed<O: Sink>(&mut self, piece: &[u8], output: &mut O) -> Result<(), Stop>
-        ensures ok { OnOk result ((bytes text : List ℕ)
-            → Reached bytes text self.old.session self.old.rest self.old.count self.old.total
+        ensures touches { Touches self.old.session.target.disk self.new.session.target.disk }
+        ensures ok { OnOk result ((first : Shown) (bytes text : List ℕ)
+            → Reached first bytes text self.old.session self.old.rest self.old.count self.old.total
             → (more : List ℕ) × Appends (O.written output.old) (O.written output.new) more
-            × Reached (bytes ++ piece.now) (text ++ more) self.new.session self.new.rest self.new.count self.new.total) }
+            × Reached first (bytes ++ piece.now) (text ++ more) self.new.session self.new.rest self.new.count self.new.total) }
         ensures grows { OnOk result (self.new.total ≡ self.old.total + length piece.now) }
-        ensures stop { IfErr result (λ stop. (bytes text : List ℕ)
-            → Reached bytes text self.old.session self.old.rest self.old.count self.old.total
+        ensures stop { IfErr result (λ stop. (first : Shown) (bytes text : List ℕ)
+            → Reached first bytes text self.old.session self.old.rest self.old.count self.old.total
             → (more : List ℕ) × Appends (O.written output.old) (O.written output.new) more
-            × Outcome ⊥ (status_of stop) (bytes ++ piece.now) (text ++ more)) }
+            × Outcome ⊥ first self.new.session.target.disk (status_of stop) (bytes ++ piece.now) (text ++ more)) }
         ensures later { O.sink_faults output.old ≤ O.sink_faults output.new }
         ensures sink { result ≡ Err Stop.Sink → Rose (O.sink_faults output.old) (O.sink_faults output.new) }
         ensures tells { is_some (O.written output.new) ≡ is_some (O.written output.old) }
@@ -145,14 +160,15 @@ impl Player {
 
     /// Runs the last line where it lacks its line feed.
     fn close<O: Sink>(&mut self, output: &mut O) -> Result<(), Stop>
-        ensures ok { OnOk result ((bytes text : List ℕ)
-            → Reached bytes text self.old.session self.old.rest self.old.count self.old.total
+        ensures touches { Touches self.old.session.target.disk self.new.session.target.disk }
+        ensures ok { OnOk result ((first : Shown) (bytes text : List ℕ)
+            → Reached first bytes text self.old.session self.old.rest self.old.count self.old.total
             → (whole : List ℕ) × (more : List ℕ) × Closes (Unit {0}) bytes whole × Appends (O.written output.old) (O.written output.new) more
-            × ((total : ℕ) × Reached whole (text ++ more) self.new.session [] self.new.count total)) }
-        ensures stop { IfErr result (λ stop. (bytes text : List ℕ)
-            → Reached bytes text self.old.session self.old.rest self.old.count self.old.total
+            × ((total : ℕ) × Reached first whole (text ++ more) self.new.session [] self.new.count total)) }
+        ensures stop { IfErr result (λ stop. (first : Shown) (bytes text : List ℕ)
+            → Reached first bytes text self.old.session self.old.rest self.old.count self.old.total
             → (more : List ℕ) × Appends (O.written output.old) (O.written output.new) more
-            × Outcome (Unit {0}) (status_of stop) bytes (text ++ more)) }
+            × Outcome (Unit {0}) first self.new.session.target.disk (status_of stop) bytes (text ++ more)) }
         ensures later { O.sink_faults output.old ≤ O.sink_faults output.new }
         ensures sink { result ≡ Err Stop.Sink → Rose (O.sink_faults output.old) (O.sink_faults output.new) }
         ensures tells { is_some (O.written output.new) ≡ is_some (O.written output.old) }
@@ -168,10 +184,10 @@ impl Player {
 
     /// Ends the run after its last line.
     fn end<O: Sink>(&self, output: &mut O) -> Status
-        ensures ends { (bytes whole text : List ℕ) (total : ℕ) → Closes (Unit {0}) bytes whole
-            → Reached whole text self.now.session [] self.now.count total
+        ensures ends { (first : Shown) (bytes whole text : List ℕ) (total : ℕ) → Closes (Unit {0}) bytes whole
+            → Reached first whole text self.now.session [] self.now.count total
             → (more : List ℕ) × Appends (O.written output.old) (O.written output.new) more
-            × Outcome (Unit {0}) result bytes (text ++ more) }
+            × Outcome (Unit {0}) first self.now.session.target.disk result bytes (text ++ more) }
         ensures later { O.sink_faults output.old ≤ O.sink_faults output.new }
         ensures never { result ≢ Status.Source }
         ensures sink { result ≡ Status.Sink → Rose (O.sink_faults output.old) (O.sink_faults output.new) }
@@ -185,10 +201,11 @@ impl Player {
 
     /// Ends the run at the end of its bytes.
     pub fn finish<O: Sink>(&mut self, output: &mut O) -> Status
-        ensures ends { (bytes text : List ℕ)
-            → Reached bytes text self.old.session self.old.rest self.old.count self.old.total
+        ensures touches { Touches self.old.session.target.disk self.new.session.target.disk }
+        ensures ends { (first : Shown) (bytes text : List ℕ)
+            → Reached first bytes text self.old.session self.old.rest self.old.count self.old.total
             → (more : List ℕ) × Appends (O.written output.old) (O.written output.new) more
-            × Outcome (Unit {0}) result bytes (text ++ more) }
+            × Outcome (Unit {0}) first self.new.session.target.disk result bytes (text ++ more) }
         ensures later { O.sink_faults output.old ≤ O.sink_faults output.new }
         ensures never { result ≢ Status.Source }
         ensures sink { result ≡ Status.Sink → Rose (O.sink_faults output.old) (O.sink_faults output.new) }

@@ -1,6 +1,8 @@
-ghost use Rattle.std.specs.Prelude.{◌≡◌, ◌≢◌, ◌++◌, ◌⊎◌, ◌↔◌, ◌<◌, ◌≤◌, ◌-◌, Some, IsTrue, ℕ, List, length};
+ghost use Rattle.std.specs.Prelude.{◌≡◌, ◌≢◌, ◌++◌, ◌⊎◌, ◌↔◌, ◌<◌, ◌≤◌, ◌-◌, ◌∷◌, Some, IsTrue, ℕ, List, length, map};
 ghost use Rattle.std.specs.Io.KnownBytes.{Appends, Consumes, IsAtEnd};
 ghost use Rattle.outside.specs.Causes.{Rose};
+ghost use Rattle.outside.specs.Disk.{Shown};
+ghost use Rattle.dne_cli.specs.Kept.{Touches};
 ghost use Rattle.dne_cli.specs.Transcript.{Outcome, IsScenario};
 ghost use Rattle.dne_cli.specs.Reached.{Reached};
 ghost use Rattle.dne_cli.specs.Words.{IsPlay, bad_words, code_of};
@@ -21,18 +23,19 @@ fn is_play(words: &[String]) -> bool
 }
 
 /// Reads all that the input has and plays it.
-fn read_all<I: Source, O: Sink>(
-    player: &mut Player,
+fn read_all<I: Source, O: Sink, D: Plant>(
+    player: &mut Player<D>,
     buffer: &mut [u8],
     input: &mut I,
     output: &mut O,
 ) -> Status
     requires { 0 < length buffer.old }
-    ensures outcome { (bytes text : List ℕ)
-        → Reached bytes text player.old.session player.old.rest player.old.count player.old.total
+    ensures touches { Touches player.old.session.target.disk player.new.session.target.disk }
+    ensures outcome { (first : Shown) (bytes text : List ℕ)
+        → Reached first bytes text player.old.session player.old.rest player.old.count player.old.total
         → (read : List ℕ) × (more : List ℕ) × Consumes (I.left input.old) (I.left input.new) read
         × Appends (O.written output.old) (O.written output.new) more
-        × Outcome (IsAtEnd (I.left input.new)) result (bytes ++ read) (text ++ more) }
+        × Outcome (IsAtEnd (I.left input.new)) first player.new.session.target.disk result (bytes ++ read) (text ++ more) }
     ensures source { result ≡ Status.Source → Rose (I.source_faults input.old) (I.source_faults input.new) }
     ensures sink { result ≡ Status.Sink → Rose (O.sink_faults output.old) (O.sink_faults output.new) }
 {
@@ -48,25 +51,60 @@ fn read_all<I: Source, O: Sink>(
     }
 }
 
-/// Plays the scenario that the input has.
-fn play<I: Source, O: Sink>(alloc: Global, input: &mut I, output: &mut O) -> Status
+/// Plays the scenario that the input has over a disk, and gives the disk back.
+fn play<I: Source, O: Sink, D: Plant>(
+    alloc: Global,
+    input: &mut I,
+    output: &mut O,
+    disk: D,
+) -> (Status, D)
+    ensures touches { Touches (D.shown disk) (D.shown result.1) }
     ensures outcome { (read : List ℕ) × (more : List ℕ) × Consumes (I.left input.old) (I.left input.new) read
         × Appends (O.written output.old) (O.written output.new) more
-        × Outcome (IsAtEnd (I.left input.new)) result read more }
+        × Outcome (IsAtEnd (I.left input.new)) (D.shown disk) (D.shown result.1) result.0 read more }
+    ensures source { result.0 ≡ Status.Source → Rose (I.source_faults input.old) (I.source_faults input.new) }
+    ensures sink { result.0 ≡ Status.Sink → Rose (O.sink_faults output.old) (O.sink_faults output.new) }
+{
+    let mut buffer = match vec![in alloc; 0u8; PIECE] {
+        Ok(buffer) => buffer,
+        Err(_) => return (Status::Memory, disk),
+    };
+    let mut player = match Player::new(alloc, disk) {
+        Ok(player) => player,
+        Err(disk) => return (Status::Memory, disk),
+    };
+    let status = read_all(&mut player, buffer.as_mut_slice(), input, output);
+    (status, player.into_disk())
+}
+
+/// Plays over the first of the disks, which comes back to its place.
+fn play_first<I: Source, O: Sink, D: Plant>(
+    alloc: Global,
+    input: &mut I,
+    output: &mut O,
+    disks: &mut Vec<D>,
+) -> Status
+    requires { 1 ≤ length disks.old.items }
+    ensures disks { (old : D) × (new : D) × (rest : List D) × (disks.old.items ≡ old ∷ rest) × (disks.new.items ≡ new ∷ rest)
+        × Touches (D.shown old) (D.shown new)
+        × ((read : List ℕ) × (more : List ℕ) × Consumes (I.left input.old) (I.left input.new) read
+        × Appends (O.written output.old) (O.written output.new) more
+        × Outcome (IsAtEnd (I.left input.new)) (D.shown old) (D.shown new) result read more) }
     ensures source { result ≡ Status.Source → Rose (I.source_faults input.old) (I.source_faults input.new) }
     ensures sink { result ≡ Status.Sink → Rose (O.sink_faults output.old) (O.sink_faults output.new) }
 {
-    let mut player = Player::new(alloc);
-    let mut buffer = match vec![in alloc; 0u8; PIECE] {
-        Ok(buffer) => buffer,
-        Err(_) => return Status::Memory,
-    };
-    read_all(&mut player, buffer.as_mut_slice(), input, output)
+    let disk = disks.remove(0);
+    let (status, disk) = play(alloc, input, output, disk);
+    match disks.insert(0, disk) {
+        Ok(()) => status,
+        Err(_) => unreachable!(),
+    }
 }
 
 /// Does all that the program does, and answers its status: 0 where the scenario was played to its `end`,
 /// 2 where words or a line were refused, 3 for want of memory, 4 and 5 where the input or the output
-/// failed. The only words so far are `play`. Nothing is done to the disks.
+/// failed. The only words so far are `play`. There are sixteen disks, and a cluster of one target uses the
+/// first of them.
 pub fn dne_main<I: Source, O: Sink, D: Plant>(
     alloc: Global,
     words: &[String],
@@ -74,28 +112,33 @@ pub fn dne_main<I: Source, O: Sink, D: Plant>(
     output: &mut O,
     disks: &mut Vec<D>,
 ) -> u8
-    // What was written is the transcript of a run over the bytes that were read.
-    ensures play { IsPlay words.now → (status : Status) × (result ≡ code_of status) × (read : List ℕ) × (more : List ℕ)
+    requires { length disks.old.items ≡ 16 }
+    // What was written is the transcript of a run over the bytes that were read, and the first disk keeps
+    // the run.
+    ensures play { IsPlay words.now → (old : D) × (new : D) × (rest : List D) × (disks.old.items ≡ old ∷ rest) × (disks.new.items ≡ new ∷ rest)
+        × Touches (D.shown old) (D.shown new)
+        × ((status : Status) × (result ≡ code_of status) × (read : List ℕ) × (more : List ℕ)
         × Consumes (I.left input.old) (I.left input.new) read × Appends (O.written output.old) (O.written output.new) more
-        × Outcome (IsAtEnd (I.left input.new)) status read more }
+        × Outcome (IsAtEnd (I.left input.new)) (D.shown old) (D.shown new) status read more) }
     // A scenario in the grammar is played to its end, unless memory runs out or the input or output fails.
     ensures complete { IsPlay words.now → (bytes : List ℕ) → I.left input.old ≡ Some bytes → IsScenario bytes
         → ¬ Rose (I.source_faults input.old) (I.source_faults input.new)
         → ¬ Rose (O.sink_faults output.old) (O.sink_faults output.new) → (result ≡ 0) ⊎ (result ≡ 3) }
-    // Other words are refused.
+    // Other words are refused, and touch no disk.
     ensures words { ¬ IsPlay words.now →
         ((result ≡ 2) × Appends (O.written output.old) (O.written output.new) bad_words)
         ⊎ ((result ≡ 5) × (front : List ℕ) × (rest : List ℕ) × (bad_words ≡ front ++ rest) × Appends (O.written output.old) (O.written output.new) front) }
+    ensures untouched { ¬ IsPlay words.now → disks.new.items ≡ disks.old.items }
     ensures source { result ≡ 4 → Rose (I.source_faults input.old) (I.source_faults input.new) }
     ensures sink { result ≡ 5 → Rose (O.sink_faults output.old) (O.sink_faults output.new) }
-    ensures disks { disks.new.items ≡ disks.old.items }
+    // The disks come back in their order.
+    ensures disks { map (λ d. (D.shown d).name) disks.new.items ≡ map (λ d. (D.shown d).name) disks.old.items }
 {
-    let _ = &disks;
     if !is_play(words) {
         return match put_all(output, b"words: BadWords\n") {
             Ok(()) => 2,
             Err(_) => 5,
         };
     }
-    code_of(play(alloc, input, output))
+    code_of(play_first(alloc, input, output, disks))
 }

@@ -1,5 +1,5 @@
 -- A command's spelling is one line: it has no line feed, and it isn't empty.
-use Rattle.std.proofs.Common.{◌≡◌, ◌≢◌, ◌==◌, ◌<◌, ◌^◌, ℕ, Option, List, [], ◌∷◌, codes, refl, sym, ap, ◌∙◌, arith}
+use Rattle.std.proofs.Common.{◌≡◌, ◌≢◌, ◌==◌, ◌<◌, ◌^◌, ℕ, Option, List, [], ◌∷◌, codes, inl, inr, refl, sym, ap, ◌∙◌, subst, arith}
 use Rattle.std.specs.List.{slice_split, join_with_byte, AllByRecursion}
 use Rattle.std.specs.Fmt.{decimal}
 use Rattle.std.proofs.lemmas.Fmt.{decimal_is_IsNumeral}
@@ -11,10 +11,10 @@ use Rattle.tree_model.specs.OpText.{IsOp, op_words}
 use Rattle.tree_model.specs.declared.op.Op.{Op}
 use Rattle.tree_model.specs.declared.op.Op.TheVariants.{Create}
 use Rattle.tree_model.proofs.Spellings.{name_lacks}
-use Rattle.scenario_text.specs.Spelling.{IsCommand, spelling, words_of}
+use Rattle.scenario_text.specs.Spelling.{Entry, Skip, Order, IsCommand, IsEntry, IsSkipped, line_of, spelling, words_of}
 use Rattle.scenario_text.specs.declared.command.Command.{Command}
 use Rattle.scenario_text.specs.declared.command.Command.TheVariants as commands
-use Rattle.scenario_text.proofs.OneSpelling.{limits, cut_words}
+use Rattle.scenario_text.proofs.OneSpelling.{limits, low_target, cut_words, one_command}
 
 fid_lacks : (f : Fid) → IsFid f → Lacks 10 (fid_text f)
 fid_lacks f h =
@@ -37,6 +37,11 @@ words_lack a (commands.Send r) h =
 words_lack a commands.Settle h = (lacks_by_test 10 (codes "settle") refl, tt)
 words_lack a commands.Tree h = (lacks_by_test 10 (codes "tree") refl, tt)
 words_lack a commands.End h = (lacks_by_test 10 (codes "end") refl, tt)
+words_lack a (commands.Commit t) h = (lacks_by_test 10 (codes "commit") refl, (digits_lack t (low_target a t h), tt))
+words_lack a (commands.Crash t) h = (lacks_by_test 10 (codes "crash") refl, (digits_lack t (low_target a t h), tt))
+words_lack a (commands.Restart t) h = (lacks_by_test 10 (codes "restart") refl, (digits_lack t (low_target a t h), tt))
+words_lack a (commands.Fuse t after choice) h =
+    (lacks_by_test 10 (codes "fuse") refl, (digits_lack t (low_target a t h.0), (digits_lack after (omega (arith, h.1)), (digits_lack choice (omega (arith, h.2)), tt))))
 
 joined_lacks : (b c : ℕ) → c ≢ b → (ws : List (List ℕ)) → AllByRecursion (λ w. Lacks b w) ws → Lacks b (join_with_byte c ws)
 joined_lacks b c other [] h = tt
@@ -52,6 +57,42 @@ no_words (commands.Send r) e = cc
 no_words commands.Settle e = cc
 no_words commands.Tree e = cc
 no_words commands.End e = cc
+no_words (commands.Commit t) e = cc
+no_words (commands.Crash t) e = cc
+no_words (commands.Restart t) e = cc
+no_words (commands.Fuse t after choice) e = cc
 
 pub not_empty : (a : Option ℕ) (c : Command) → IsCommand a c → spelling c ≢ []
 not_empty a c h = λ e. no_words c (sym (ap (slice_split (λ x. x == 32)) e) ∙ cut_words a c h)
+
+-- no command's spelling begins with `#`
+abbrev first_of : List ℕ → ℕ
+first_of [] = 0
+first_of (b ∷ rest) = b
+
+no_comment : (c : Command) (rest : List ℕ) → spelling c ≡ 0x23 ∷ rest → ⊥
+no_comment (commands.Cluster n) rest e = let b = ap first_of e in absurd (omega (arith, b))
+no_comment (commands.Send r) rest e = let b = ap first_of e in absurd (omega (arith, b))
+no_comment commands.Settle rest e = let b = ap first_of e in absurd (omega (arith, b))
+no_comment commands.Tree rest e = let b = ap first_of e in absurd (omega (arith, b))
+no_comment commands.End rest e = let b = ap first_of e in absurd (omega (arith, b))
+no_comment (commands.Commit t) rest e = let b = ap first_of e in absurd (omega (arith, b))
+no_comment (commands.Crash t) rest e = let b = ap first_of e in absurd (omega (arith, b))
+no_comment (commands.Restart t) rest e = let b = ap first_of e in absurd (omega (arith, b))
+no_comment (commands.Fuse t after choice) rest e = let b = ap first_of e in absurd (omega (arith, b))
+
+pub not_skipped : (a : Option ℕ) (c : Command) → IsCommand a c → IsSkipped (spelling c) → ⊥
+not_skipped a c h (inl none) = not_empty a c h none
+not_skipped a c h (inr comment) = no_comment c comment.0 comment.1
+
+-- what stands on a line has no line feed
+pub entry_line : (a : Option ℕ) (e : Entry) → IsEntry a e → Lacks 10 (line_of e)
+entry_line a (Skip line) h = h.1
+entry_line a (Order c) h = one_line a c h
+
+-- a line is one entry
+pub one_entry : (a b : Option ℕ) (e f : Entry) → IsEntry a e → IsEntry b f → line_of e ≡ line_of f → e ≡ f
+one_entry a b (Skip x) (Skip y) h k e = ap Skip e
+one_entry a b (Skip x) (Order c) h k e = absurd (not_skipped b c k (subst IsSkipped e h.0))
+one_entry a b (Order c) (Skip y) h k e = absurd (not_skipped a c h (subst IsSkipped (sym e) k.0))
+one_entry a b (Order c) (Order d) h k e = ap Order (one_command a b c d h k e)

@@ -1,5 +1,5 @@
 -- Two scenarios through the definitions, down to the bytes.
-use Rattle.std.proofs.Common.{◌≡◌, cond, true, false, Some, None, List, [], ◌∷◌, ◌++◌, length, codes, inl, IsSome, refl, sym, ap, ◌∙◌, arith}
+use Rattle.std.proofs.Common.{◌≡◌, cond, true, false, Some, None, List, [], ◌∷◌, ◌++◌, length, codes, inl, inr, Bool, ◌||◌, ◌+◌, IsSome, refl, sym, ap, ◌∙◌, subst, arith}
 use Rattle.std.specs.declared.cmp.Ordering.{Ordering}
 use Rattle.std.specs.Ordering.{eq_by_cmp}
 use Rattle.std.specs.List.{flat_map}
@@ -24,7 +24,9 @@ use Rattle.tree_model.proofs.Maps.{fids_total, entries_total}
 use Rattle.scenario_text.specs.declared.command.Command.TheVariants as commands
 use Rattle.scenario_text.specs.declared.line.Line.TheVariants as lines
 use Rattle.scenario_text.specs.LineText.{members}
-use Rattle.scenario_text.specs.Machine.{State, Group, Turn, Run, start, targets_of, commands_of, scenario, transcript}
+use Rattle.scenario_text.specs.declared.line.Standing.TheVariants.{Serving}
+use Rattle.scenario_text.specs.Spelling.{Order}
+use Rattle.scenario_text.specs.Machine.{State, Group, Turn, Run, TreeLines, EndLines, is_formatted, serves, start, targets_of, entries_of, scenario, transcript}
 use Rattle.scenario_text.specs.Worked.{IsTranscript}
 
 none_of_length : {A : Type 0} (es : List A) → length es ≡ 0 → es ≡ []
@@ -90,31 +92,37 @@ item = record { request = request; reply = replies.Ok }
 -- THE RUNS
 
 abbrev made : State
-made = record { asked = record { cluster = Some 1; ended = false; sent = [] }; history = [] }
+made = record (start true) { asked = record { cluster = Some 1; ended = false; sent = [] }; standing = Serving }
 
 abbrev sent : State
-sent = record { asked = record { cluster = Some 1; ended = false; sent = request ∷ [] }; history = [] }
+sent = record made { asked = record { cluster = Some 1; ended = false; sent = request ∷ [] }; formatted = true }
 
 abbrev settled : State
-settled = record { asked = record { cluster = Some 1; ended = false; sent = request ∷ [] }; history = item ∷ [] }
+settled = record sent { history = item ∷ []; pend = 1 ∷ [] }
 
 abbrev cluster_group : Group
-cluster_group = record { command = commands.Cluster 1; lines = [] }
+cluster_group = record { entry = Order (commands.Cluster 1); lines = [] }
 
 abbrev send_group : Group
-send_group = record { command = commands.Send request; lines = [] }
+send_group = record { entry = Order (commands.Send request); lines = [] }
 
 abbrev settle_group : Group
-settle_group = record { command = commands.Settle; lines = lines.Accept 1 replies.Ok 1 ∷ lines.Reply 1 replies.Ok ∷ [] }
+settle_group = record { entry = Order commands.Settle; lines = lines.Accept 1 replies.Ok 1 ∷ lines.Reply 1 replies.Ok ∷ [] }
+
+abbrev shown : State → State
+shown s = record s { formatted = true }
 
 abbrev tree_group : State → Group
-tree_group s = record { command = commands.Tree; lines = lines.Tree (record { targets = targets_of s; tree = tree_of (targets_of s) s.history }) ∷ [] }
+tree_group s = record { entry = Order commands.Tree; lines = lines.Tree (record { targets = targets_of s; tree = tree_of (targets_of s) s.history }) ∷ [] }
 
-abbrev end_group : Group
-end_group = record { command = commands.End; lines = lines.EndClean ∷ [] }
+abbrev end_group : State → Group
+end_group s = record { entry = Order commands.End; lines = lines.Stable 0 s.pend ∷ lines.EndClean ∷ [] }
 
 abbrev end_of : State → State
-end_of s = record s { asked = record s.asked { ended = true } }
+end_of s = record s { asked = record s.asked { ended = true }; formatted = true; pend = []; last = s.last + length s.pend; clean = true }
+
+abbrev stable_of : State → State
+stable_of s = record s { asked = record s.asked { ended = true }; formatted = true; pend = []; last = s.last + length s.pend }
 
 root_placed : IsPlaced 1 root_fid
 root_placed = ((omega arith, omega arith, omega arith), refl)
@@ -122,17 +130,17 @@ root_placed = ((omega arith, omega arith, omega arith), refl)
 file_placed : IsPlaced 1 file_fid
 file_placed = ((omega arith, omega arith, omega arith), refl)
 
-name_plain : IsName (codes "a")
-name_plain = (omega arith, omega arith, (omega arith, tt), (((λ e. cc), (λ e. cc)), tt), (λ e. cc), (λ e. cc))
+name_fits : IsName (codes "a")
+name_fits = (omega arith, omega arith, (omega arith, tt), (((λ e. cc), (λ e. cc)), tt), (λ e. cc), (λ e. cc))
 
 on_home : 1 ≡ participants 1 create replies.Ok
 on_home = refl
 
-cluster_turn : Turn start cluster_group made
-cluster_turn = ((refl, refl), refl, refl)
+cluster_turn : Turn (start true) cluster_group made
+cluster_turn = ((refl, refl), inl refl, refl)
 
 send_turn : Turn made send_group sent
-send_turn = (((omega arith, omega arith, omega arith, (root_placed, name_plain, file_placed)), ((refl, refl), omega arith)), refl, refl)
+send_turn = (((omega arith, omega arith, omega arith, (root_placed, name_fits, file_placed)), ((refl, refl), refl)), refl, refl)
 
 settle_turn : Turn sent settle_group settled
 settle_turn = (
@@ -140,48 +148,63 @@ settle_turn = (
   (tt, (tt, tt)),
   (
     settled,
-    (request, inl refl, refl, tt, ap (λ (p : Tree × Reply). p.1) (sym file_step), on_home, refl, refl),
-    (settled, (item, refl, refl, (inl refl, (λ _. omega arith, tt)), refl), refl),
+    record { request = request; sent = inl refl; numbered = refl; serving = refl; fresh = tt; replied = ap (λ (p : Tree × Reply). p.1) (sym file_step); placed = on_home; next = refl; after = refl },
+    (settled, record { item = item; numbered = refl; replied = refl; serving = refl; latest = (inl refl, (λ _. omega arith, tt)); after = refl }, refl),
   ),
 )
 
-tree_turn : (s : State) → IsSome s.asked.cluster → s.asked.ended ≡ false → Turn s (tree_group s) s
-tree_turn s some going = ((tt, (some, going)), (_, refl), (s, (refl, refl), refl))
+tree_lines : (s : State) → s.standing ≡ Serving → TreeLines s.standing (tree_group s).lines
+tree_lines s is = subst (λ x. TreeLines x (tree_group s).lines) (sym is) (_, refl)
 
-end_turn : (s : State) → IsSome s.asked.cluster → s.asked.ended ≡ false → Turn s end_group (end_of s)
-end_turn s some going = ((tt, (some, going)), refl, (end_of s, refl, refl))
+end_lines : (s : State) → s.standing ≡ Serving → EndLines s.standing (end_group s).lines
+end_lines s is = subst (λ x. EndLines x (end_group s).lines) (sym is) (inl (s.pend, refl))
+
+now_formatted : (s : State) → s.standing ≡ Serving → is_formatted s ≡ true
+now_formatted s is = ap (λ x. s.formatted || serves x) is ∙ or_true s.formatted
+  where
+    or_true : (b : Bool) → b || true ≡ true
+    or_true true = refl
+    or_true false = refl
+
+tree_turn : (s : State) → IsSome s.asked.cluster → s.asked.ended ≡ false → s.standing ≡ Serving → Turn s (tree_group s) (shown s)
+tree_turn s some going is = ((tt, (some, going)), tree_lines s is, (shown s, (refl, sym (λ i. record s { formatted = now_formatted s is i })), refl))
+
+end_turn : (s : State) → IsSome s.asked.cluster → s.asked.ended ≡ false → s.standing ≡ Serving → Turn s (end_group s) (end_of s)
+end_turn s some going is =
+    ((tt, (some, going)), end_lines s is, (stable_of s, (is, refl, (λ i. record (stable_of s) { formatted = sym (now_formatted s is) i })), (end_of s, (is, refl), refl)))
 
 abbrev first_groups : List Group
-first_groups = cluster_group ∷ send_group ∷ settle_group ∷ tree_group settled ∷ end_group ∷ []
+first_groups = cluster_group ∷ send_group ∷ settle_group ∷ tree_group settled ∷ end_group settled ∷ []
 
-first_run : Run start first_groups (end_of settled)
-first_run = (made, cluster_turn, (sent, send_turn, (settled, settle_turn, (settled, tree_turn settled refl refl, (end_of settled, end_turn settled refl refl, refl)))))
+first_run : Run (start true) first_groups (end_of settled)
+first_run = (made, cluster_turn, (sent, send_turn, (settled, settle_turn, (settled, tree_turn settled refl refl refl, (end_of settled, end_turn settled refl refl refl, refl)))))
 
-first_text : transcript first_groups ≡ codes "accept 1 OK on 0\nreply 1 OK\ntree 2 1\nnode [0x200000007:0x1:0x0] dir 0755 0 0 2\nnode [0x200000400:0x1:0x0] file 0644 0 0 1\nentry [0x200000007:0x1:0x0] a [0x200000400:0x1:0x0]\nend clean\n"
+first_text : transcript first_groups ≡ codes "accept 1 OK on 0\nreply 1 OK\ntree 2 1\nnode [0x200000007:0x1:0x0] dir 0755 0 0 2\nnode [0x200000400:0x1:0x0] file 0644 0 0 1\nentry [0x200000007:0x1:0x0] a [0x200000400:0x1:0x0]\nstable 0 1\nend clean\n"
 unfolding digits members
-first_text = ap (λ t. codes "accept 1 OK on 0\nreply 1 OK\n" ++ (t ++ codes "end clean\n")) (ap (λ (p : Tree × Reply). tree_text p.0) file_step ∙ grown_text)
+first_text = ap (λ t. codes "accept 1 OK on 0\nreply 1 OK\n" ++ (t ++ codes "stable 0 1\nend clean\n")) (ap (λ (p : Tree × Reply). tree_text p.0) file_step ∙ grown_text)
 
-first_scenario : scenario (commands_of first_groups) ≡ codes "cluster 1\nsend 1 0 create [0x200000007:0x1:0x0] a [0x200000400:0x1:0x0]\nsettle\ntree\nend\n"
+first_scenario : scenario (entries_of first_groups) ≡ codes "cluster 1\nsend 1 0 create [0x200000007:0x1:0x0] a [0x200000400:0x1:0x0]\nsettle\ntree\nend\n"
 unfolding digits
 first_scenario = refl
 
 pub first : IsTranscript
     (codes "cluster 1\nsend 1 0 create [0x200000007:0x1:0x0] a [0x200000400:0x1:0x0]\nsettle\ntree\nend\n")
-    (codes "accept 1 OK on 0\nreply 1 OK\ntree 2 1\nnode [0x200000007:0x1:0x0] dir 0755 0 0 2\nnode [0x200000400:0x1:0x0] file 0644 0 0 1\nentry [0x200000007:0x1:0x0] a [0x200000400:0x1:0x0]\nend clean\n")
-first = (first_groups, end_of settled, first_run, (tt, (tt, ((inl refl, tt), (tt, (tt, tt))))), refl, sym first_scenario, sym first_text)
+    (codes "accept 1 OK on 0\nreply 1 OK\ntree 2 1\nnode [0x200000007:0x1:0x0] dir 0755 0 0 2\nnode [0x200000400:0x1:0x0] file 0644 0 0 1\nentry [0x200000007:0x1:0x0] a [0x200000400:0x1:0x0]\nstable 0 1\nend clean\n")
+first = (first_groups, end_of settled, first_run, ((λ e. cc), ((λ e. cc), ((λ _. (inr (inl refl), tt)), ((λ e. cc), ((λ e. cc), tt))))), refl, sym first_scenario, sym first_text)
 
 abbrev empty_groups : List Group
-empty_groups = cluster_group ∷ tree_group made ∷ end_group ∷ []
+empty_groups = cluster_group ∷ tree_group made ∷ end_group (shown made) ∷ []
 
-empty_run : Run start empty_groups (end_of made)
-empty_run = (made, cluster_turn, (made, tree_turn made refl refl, (end_of made, end_turn made refl refl, refl)))
+empty_run : Run (start true) empty_groups (end_of (shown made))
+empty_run = (made, cluster_turn, (shown made, tree_turn made refl refl refl, (end_of (shown made), end_turn (shown made) refl refl refl, refl)))
 
-empty_text : transcript empty_groups ≡ codes "tree 1 0\nnode [0x200000007:0x1:0x0] dir 0755 0 0 2\nend clean\n"
-empty_text = ap (λ t. t ++ codes "end clean\n") base_text
+empty_text : transcript empty_groups ≡ codes "tree 1 0\nnode [0x200000007:0x1:0x0] dir 0755 0 0 2\nstable 0 -\nend clean\n"
+unfolding digits
+empty_text = ap (λ t. t ++ codes "stable 0 -\nend clean\n") base_text
 
-empty_scenario : scenario (commands_of empty_groups) ≡ codes "cluster 1\ntree\nend\n"
+empty_scenario : scenario (entries_of empty_groups) ≡ codes "cluster 1\ntree\nend\n"
 unfolding digits
 empty_scenario = refl
 
-pub empty_tree : IsTranscript (codes "cluster 1\ntree\nend\n") (codes "tree 1 0\nnode [0x200000007:0x1:0x0] dir 0755 0 0 2\nend clean\n")
-empty_tree = (empty_groups, end_of made, empty_run, (tt, (tt, (tt, tt))), refl, sym empty_scenario, sym empty_text)
+pub empty_tree : IsTranscript (codes "cluster 1\ntree\nend\n") (codes "tree 1 0\nnode [0x200000007:0x1:0x0] dir 0755 0 0 2\nstable 0 -\nend clean\n")
+empty_tree = (empty_groups, end_of (shown made), empty_run, ((λ e. cc), ((λ e. cc), ((λ e. cc), tt))), refl, sym empty_scenario, sym empty_text)

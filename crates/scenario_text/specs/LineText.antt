@@ -6,6 +6,8 @@ use Rattle.fid_space.specs.Targets.{is_member}
 use Rattle.tree_model.specs.TreeText.{tree_text}
 use Rattle.tree_model.specs.ReplyText.{reply_text}
 use Rattle.tree_model.specs.declared.reply.Reply.{Reply}
+use Rattle.scenario_text.specs.declared.line.Standing.{Standing}
+use Rattle.scenario_text.specs.declared.line.Standing.TheVariants.{Serving, Opened, Down}
 use Rattle.scenario_text.specs.declared.line.Line.{Line}
 use Rattle.scenario_text.specs.declared.line.Line.TheVariants as lines
 
@@ -32,11 +34,44 @@ accept_text number reply on =
 abbrev pub reply_line_text : ℕ → Reply → List ℕ
 reply_line_text number reply = codes "reply " ++ (decimal number ++ (codes " " ++ (reply_text reply ++ codes "\n")))
 
+-- a word and a number
+abbrev pub one_text : List ℕ → ℕ → List ℕ
+one_text word n = word ++ (decimal n ++ codes "\n")
+
+-- a word, a number, another word and another number
+abbrev pub two_text : List ℕ → ℕ → List ℕ → ℕ → List ℕ
+two_text word n other m = word ++ (decimal n ++ (other ++ (decimal m ++ codes "\n")))
+
+abbrev pub stable_text : ℕ → List ℕ → List ℕ
+stable_text target numbers = codes "stable " ++ (decimal target ++ (codes " " ++ (list_text numbers ++ codes "\n")))
+
+abbrev pub up_text : ℕ → ℕ → List ℕ → List ℕ
+up_text target transno numbers =
+    codes "up " ++ (decimal target ++ (codes " transno " ++ (decimal transno ++ (codes " holds " ++ (list_text numbers ++ codes "\n")))))
+
+abbrev pub standing_word : Standing → List ℕ
+standing_word Serving = codes "serving"
+standing_word Opened = codes "opened"
+standing_word Down = codes "down"
+
+abbrev pub state_text : ℕ → Standing → List ℕ
+state_text target standing = codes "state " ++ (decimal target ++ (codes " " ++ (standing_word standing ++ codes "\n")))
+
 abbrev pub line_text : Line → List ℕ
 line_text (lines.Accept number reply on) = accept_text number reply on
 line_text (lines.Reply number reply) = reply_line_text number reply
+line_text (lines.Stale number last) = two_text (codes "stale ") number (codes " last ") last
+line_text (lines.Recovering number target) = two_text (codes "recovering ") number (codes " target ") target
+line_text (lines.Stable target numbers) = stable_text target numbers
+line_text (lines.Down target) = one_text (codes "down ") target
+line_text (lines.Up target transno numbers) = up_text target transno numbers
+line_text (lines.DamagedGates target gates) = two_text (codes "damaged ") target (codes " gates ") gates
+line_text (lines.DamagedImage target place) = two_text (codes "damaged ") target (codes " image ") place
+line_text (lines.State target standing) = state_text target standing
 line_text (lines.Tree t) = tree_text t.tree
+line_text (lines.TreeState target) = one_text (codes "tree state ") target
 line_text lines.EndClean = codes "end clean\n"
+line_text (lines.EndUnclean target) = one_text (codes "end unclean target ") target
 
 -- the text of several lines
 abbrev pub texts : List Line → List ℕ

@@ -1,22 +1,26 @@
 -- The plain machine: which commands may come, which lines may be said, and what whole runs owe. Its
--- state is made from the commands and lines alone: it has one plain tree and no target's memory.
-use Rattle.std.specs.Prelude.{◌≡◌, ◌≢◌, ◌<◌, ◌≤◌, ◌⊎◌, ℕ, max, Bool, true, false, List, [], ◌∷◌, ◌++◌, map, Option, Some, None, unwrap_or, IsSome}
+-- state is made from the commands and lines alone: it has one plain tree and no target's memory. So far
+-- there is one target, number 0.
+use Rattle.std.specs.Prelude.{◌≡◌, ◌≢◌, ◌<◌, ◌≤◌, ◌⊎◌, ◌+◌, ◌==◌, ◌||◌, ℕ, length, take, Bool, true, false, IsTrue, List, [], ◌∷◌, ◌++◌, map, Option, Some, None, unwrap_or, IsSome}
 use Rattle.std.specs.List.{AllByRecursion, flat_map}
 use Rattle.tree_model.specs.Tree.{Grown}
 use Rattle.tree_model.specs.Step.{step}
 use Rattle.tree_model.specs.History.{Item, tree_of}
 use Rattle.tree_model.specs.Participants.{home_of, participants}
 use Rattle.tree_model.specs.declared.op.Request.{Request}
-use Rattle.scenario_text.specs.Spelling.{IsCommand, spelling}
+use Rattle.tree_model.specs.declared.reply.Reply.{Reply}
+use Rattle.scenario_text.specs.Spelling.{Entry, Skip, Order, IsEntry, line_of}
 use Rattle.scenario_text.specs.LineText.{texts}
 use Rattle.scenario_text.specs.declared.command.Command.{Command}
 use Rattle.scenario_text.specs.declared.command.Command.TheVariants as commands
+use Rattle.scenario_text.specs.declared.line.Standing.{Standing}
+use Rattle.scenario_text.specs.declared.line.Standing.TheVariants.{Serving, Opened, Down}
 use Rattle.scenario_text.specs.declared.line.Line.{Line}
 use Rattle.scenario_text.specs.declared.line.Line.TheVariants as lines
 
 -- COMMANDS
 
--- what the commands so far have asked for: the cluster, where there is one, the end, and the requests
+-- what the lines so far have asked for: the cluster, where there is one, the end, and the requests
 pub record Asked : Type 0 where
   pub cluster : Option ℕ
   pub ended : Bool
@@ -25,60 +29,115 @@ pub record Asked : Type 0 where
 abbrev pub nothing_asked : Asked
 nothing_asked = record { cluster = None; ended = false; sent = [] }
 
-abbrev pub asked_after : Asked → Command → Asked
-asked_after a (commands.Cluster targets) = record a { cluster = Some targets }
-asked_after a (commands.Send r) = record a { sent = a.sent ++ r ∷ [] }
-asked_after a commands.Settle = a
-asked_after a commands.Tree = a
-asked_after a commands.End = record a { ended = true }
+abbrev pub asked_by : Asked → Command → Asked
+asked_by a (commands.Cluster targets) = record a { cluster = Some targets }
+asked_by a (commands.Send r) = record a { sent = a.sent ++ r ∷ [] }
+asked_by a commands.Settle = a
+asked_by a commands.Tree = a
+asked_by a commands.End = record a { ended = true }
+asked_by a (commands.Commit target) = a
+asked_by a (commands.Crash target) = a
+asked_by a (commands.Restart target) = a
+asked_by a (commands.Fuse target after choice) = a
 
--- the greatest number of these requests, or 0
-abbrev pub highest : List Request → ℕ
-highest [] = 0
-highest (r ∷ rs) = max r.number (highest rs)
+abbrev pub asked_after : Asked → Entry → Asked
+asked_after a (Skip line) = a
+asked_after a (Order c) = asked_by a c
+
+-- a request with this number was sent
+abbrev pub is_sent : List Request → ℕ → Bool
+is_sent [] number = false
+is_sent (r ∷ rs) number = (r.number == number) || is_sent rs number
 
 -- between `cluster` and `end`
 abbrev pub IsOpen : Option ℕ → Bool → Type 0
 IsOpen cluster ended = IsSome cluster × (ended ≡ false)
 
--- when a command may come: `cluster` once, the others between it and `end`, a request with a number
--- above all that were sent
-abbrev pub MayCome : Option ℕ → Bool → ℕ → Command → Type 0
-MayCome cluster ended last (commands.Cluster targets) = cluster ≡ None
-MayCome cluster ended last (commands.Send r) = IsOpen cluster ended × (last < r.number)
-MayCome cluster ended last commands.Settle = IsOpen cluster ended
-MayCome cluster ended last commands.Tree = IsOpen cluster ended
-MayCome cluster ended last commands.End = IsOpen cluster ended
+-- when a command may come: `cluster` once, the others between it and `end`, a request with a number that
+-- wasn't used
+abbrev pub MayCome : Option ℕ → Bool → (ℕ → Bool) → Command → Type 0
+MayCome cluster ended used (commands.Cluster targets) = cluster ≡ None
+MayCome cluster ended used (commands.Send r) = IsOpen cluster ended × (used r.number ≡ false)
+MayCome cluster ended used commands.Settle = IsOpen cluster ended
+MayCome cluster ended used commands.Tree = IsOpen cluster ended
+MayCome cluster ended used commands.End = IsOpen cluster ended
+MayCome cluster ended used (commands.Commit target) = IsOpen cluster ended
+MayCome cluster ended used (commands.Crash target) = IsOpen cluster ended
+MayCome cluster ended used (commands.Restart target) = IsOpen cluster ended
+MayCome cluster ended used (commands.Fuse target after choice) = IsOpen cluster ended
 
--- a command that has a spelling and may come
-abbrev pub IsTaken : Asked → Command → Type 0
-IsTaken a c = IsCommand a.cluster c × MayCome a.cluster a.ended (highest a.sent) c
+-- what may stand on the next line; nothing may after `end`
+abbrev pub MayStand : Option ℕ → Bool → (ℕ → Bool) → Entry → Type 0
+MayStand cluster ended used (Skip line) = ended ≡ false
+MayStand cluster ended used (Order c) = MayCome cluster ended used c
 
--- commands that may come one after another
-abbrev pub AreTaken : Asked → List Command → Type 0
+abbrev pub IsTaken : Asked → Entry → Type 0
+IsTaken a e = IsEntry a.cluster e × MayStand a.cluster a.ended (is_sent a.sent) e
+
+-- what may stand on one line after another
+abbrev pub AreTaken : Asked → List Entry → Type 0
 AreTaken a [] = Unit {0}
-AreTaken a (c ∷ cs) = IsTaken a c × AreTaken (asked_after a c) cs
+AreTaken a (e ∷ es) = IsTaken a e × AreTaken (asked_after a e) es
 
-abbrev pub asked_all : Asked → List Command → Asked
+abbrev pub asked_all : Asked → List Entry → Asked
 asked_all a [] = a
-asked_all a (c ∷ cs) = asked_all (asked_after a c) cs
+asked_all a (e ∷ es) = asked_all (asked_after a e) es
 
--- no command that may come is spelled so
+-- nothing that may stand on the next line is spelled so
 abbrev pub IsRefused : Asked → List ℕ → Type 0
-IsRefused a line = (c : Command) → IsTaken a c → line ≢ spelling c
+IsRefused a line = (e : Entry) → IsTaken a e → line ≢ line_of e
 
 -- LINES
 
+-- The state: what was asked for; what was accepted; the target's standing, and whether it is known by now
+-- that its disk was formatted; the requests accepted there that no `stable` line has listed; its
+-- transaction number as the last `stable` or `up` line left it. `honest` says whether its disk is honest:
+-- that is the premise of what an `up` line tells.
 pub record State : Type 0 where
   pub asked : Asked
   pub history : List Item
+  pub standing : Standing
+  pub formatted : Bool
+  pub pend : List ℕ
+  pub last : ℕ
+  pub clean : Bool
+  pub honest : Bool
 
-abbrev pub start : State
-start = record { asked = nothing_asked; history = [] }
+abbrev pub start : Bool → State
+start honest = record { asked = nothing_asked; history = []; standing = Down; formatted = false; pend = []; last = 0; clean = false; honest = honest }
 
 -- the targets of the cluster, or 0 before there is one
 abbrev pub targets_of : State → ℕ
 targets_of s = unwrap_or s.asked.cluster 0
+
+abbrev pub serves : Standing → Bool
+serves Serving = true
+serves Opened = false
+serves Down = false
+
+-- the disk was formatted, as a target shows that serves
+abbrev pub is_formatted : State → Bool
+is_formatted s = s.formatted || serves s.standing
+
+-- a cluster is made with its target serving
+abbrev pub standing_by : Standing → Command → Standing
+standing_by s (commands.Cluster targets) = Serving
+standing_by s (commands.Send r) = s
+standing_by s commands.Settle = s
+standing_by s commands.Tree = s
+standing_by s commands.End = s
+standing_by s (commands.Commit target) = s
+standing_by s (commands.Crash target) = s
+standing_by s (commands.Restart target) = s
+standing_by s (commands.Fuse target after choice) = s
+
+abbrev pub standing_after : Standing → Entry → Standing
+standing_after s (Skip line) = s
+standing_after s (Order c) = standing_by s c
+
+-- what a line of the scenario does by itself, before the lines that come of it
+abbrev pub begun : State → Entry → State
+begun s e = record s { asked = asked_after s.asked e; standing = standing_after s.standing e; formatted = is_formatted s }
 
 abbrev pub Among : {X : Type 0} → List X → X → Type 0
 Among [] x = ⊥
@@ -102,22 +161,83 @@ abbrev pub IsLatest : ℕ → List Item → Item → Type 0
 IsLatest targets history i =
     Among history i × AllByRecursion (λ j. SameSeat targets j.request i.request → j.request.number ≤ i.request.number) history
 
+abbrev pub numbers_of : List Item → List ℕ
+numbers_of items = map (λ i. i.request.number) items
+
+-- A request that was sent is accepted with the tree's reply, on its participants; its reply comes next.
+pub record Accepts (old : State) (number : ℕ) (reply : Reply) (on : ℕ) (others : List Line) (new : State) : Type 0 where
+  pub request : Request
+  pub sent : Among old.asked.sent request
+  pub numbered : request.number ≡ number
+  pub serving : old.standing ≡ Serving
+  pub fresh : IsNew (targets_of old) old.history request
+  pub replied : reply ≡ (step (targets_of old) (tree_of (targets_of old) old.history) request.op).1
+  pub placed : on ≡ participants (targets_of old) request.op reply
+  pub next : NextIs (lines.Reply number reply) others
+  pub after : new ≡ record old { history = old.history ++ record { request = request; reply = reply } ∷ []; pend = old.pend ++ number ∷ [] }
+
+-- A request that was accepted is answered with its reply.
+pub record Answers (old : State) (number : ℕ) (reply : Reply) (new : State) : Type 0 where
+  pub item : Item
+  pub numbered : item.request.number ≡ number
+  pub replied : item.reply ≡ reply
+  pub serving : old.standing ≡ Serving
+  pub latest : IsLatest (targets_of old) old.history item
+  pub after : new ≡ old
+
+-- A request that was sent is late: a greater number of its client was accepted at its home, and the
+-- greatest of these is the last.
+pub record IsStale (old : State) (number last : ℕ) (new : State) : Type 0 where
+  pub request : Request
+  pub sent : Among old.asked.sent request
+  pub numbered : request.number ≡ number
+  pub serving : old.standing ≡ Serving
+  pub item : Item
+  pub same_seat : SameSeat (targets_of old) item.request request
+  pub latest : IsLatest (targets_of old) old.history item
+  pub named : item.request.number ≡ last
+  pub greater : number < last
+  pub after : new ≡ old
+
+-- A request that was sent has a home that doesn't serve.
+pub record Recovers (old : State) (number target : ℕ) (new : State) : Type 0 where
+  pub request : Request
+  pub sent : Among old.asked.sent request
+  pub numbered : request.number ≡ number
+  pub home : home_of (targets_of old) request.op ≡ Some target
+  pub stopped : serves old.standing ≡ false
+  pub after : new ≡ old
+
+-- What a disk may hold: a front of what was accepted, with all of it that was named stable. The
+-- transaction number counts it.
+pub record FitsFront (s : State) (transno : ℕ) (numbers : List ℕ) : Type 0 where
+  pub stable : s.last ≤ transno
+  pub accepted : transno ≤ length s.history
+  pub front : numbers ≡ numbers_of (take transno s.history)
+
 -- From old the machine may say the line, before these others, and goes on to new.
 abbrev pub Says : State → Line → List Line → State → Type 0
--- A request that was sent is accepted with the tree's reply, on its participants; its reply comes next.
-Says old (lines.Accept number reply on) others new =
-    (r : Request) × Among old.asked.sent r × (r.number ≡ number) × IsNew (targets_of old) old.history r
-    × (reply ≡ (step (targets_of old) (tree_of (targets_of old) old.history) r.op).1)
-    × (on ≡ participants (targets_of old) r.op reply)
-    × NextIs (lines.Reply number reply) others
-    × (new ≡ record old { history = old.history ++ record { request = r; reply = reply } ∷ [] })
--- A request that was accepted is answered with its reply.
-Says old (lines.Reply number reply) others new =
-    (i : Item) × (i.request.number ≡ number) × (i.reply ≡ reply) × IsLatest (targets_of old) old.history i × (new ≡ old)
+Says old (lines.Accept number reply on) others new = Accepts old number reply on others new
+Says old (lines.Reply number reply) others new = Answers old number reply new
+Says old (lines.Stale number last) others new = IsStale old number last new
+Says old (lines.Recovering number target) others new = Recovers old number target new
+-- What is pending is stable now.
+Says old (lines.Stable target numbers) others new =
+    (old.standing ≡ Serving) × (numbers ≡ old.pend) × (new ≡ record old { pend = []; last = old.last + length old.pend })
+Says old (lines.Down target) others new = new ≡ record old { standing = Down; pend = [] }
+-- What an honest disk holds fits.
+Says old (lines.Up target transno numbers) others new =
+    (IsTrue old.honest → FitsFront old transno numbers) × (new ≡ record old { standing = Opened; formatted = true; last = transno })
+-- An honest disk is never damaged.
+Says old (lines.DamagedGates target gates) others new = (old.honest ≡ false) × (new ≡ old)
+Says old (lines.DamagedImage target place) others new = (old.honest ≡ false) × (new ≡ old)
+Says old (lines.State target standing) others new = (standing ≡ old.standing) × (new ≡ old)
 -- The tree is that of the history.
 Says old (lines.Tree grown) others new =
     (grown ≡ record { targets = targets_of old; tree = tree_of (targets_of old) old.history }) × (new ≡ old)
-Says old lines.EndClean others new = new ≡ old
+Says old (lines.TreeState target) others new = (serves old.standing ≡ false) × (new ≡ old)
+Says old lines.EndClean others new = (old.standing ≡ Serving) × (new ≡ record old { clean = true })
+Says old (lines.EndUnclean target) others new = (serves old.standing ≡ false) × (new ≡ old)
 
 abbrev pub SaysAll : State → List Line → State → Type 0
 SaysAll old [] new = new ≡ old
@@ -125,72 +245,140 @@ SaysAll old (line ∷ others) new = (mid : State) × Says old line others mid ×
 
 -- GROUPS
 
--- a command, and the lines that come of it
+-- what stands on a line of the scenario, and the lines that come of it
 pub record Group : Type 0 where
-  pub command : Command
+  pub entry : Entry
   pub lines : List Line
 
-abbrev pub IsAcceptOrReply : Line → Type 0
-IsAcceptOrReply (lines.Accept number reply on) = Unit {0}
-IsAcceptOrReply (lines.Reply number reply) = Unit {0}
-IsAcceptOrReply (lines.Tree grown) = ⊥
-IsAcceptOrReply lines.EndClean = ⊥
+-- a line that answers a request
+abbrev pub IsAnswer : Line → Type 0
+IsAnswer (lines.Accept number reply on) = Unit {0}
+IsAnswer (lines.Reply number reply) = Unit {0}
+IsAnswer (lines.Stale number last) = Unit {0}
+IsAnswer (lines.Recovering number target) = Unit {0}
+IsAnswer (lines.Stable target numbers) = ⊥
+IsAnswer (lines.Down target) = ⊥
+IsAnswer (lines.Up target transno numbers) = ⊥
+IsAnswer (lines.DamagedGates target gates) = ⊥
+IsAnswer (lines.DamagedImage target place) = ⊥
+IsAnswer (lines.State target standing) = ⊥
+IsAnswer (lines.Tree grown) = ⊥
+IsAnswer (lines.TreeState target) = ⊥
+IsAnswer lines.EndClean = ⊥
+IsAnswer (lines.EndUnclean target) = ⊥
 
--- which lines a command may have
-abbrev pub IsGroup : Command → List Line → Type 0
-IsGroup (commands.Cluster targets) ls = ls ≡ []
-IsGroup (commands.Send r) ls = ls ≡ []
-IsGroup commands.Settle ls = AllByRecursion IsAcceptOrReply ls
-IsGroup commands.Tree ls = (grown : Grown) × (ls ≡ lines.Tree grown ∷ [])
-IsGroup commands.End ls = ls ≡ lines.EndClean ∷ []
+-- a commit of a target by its standing: it is stable, or it stops; where it doesn't serve it says so
+abbrev pub CommitLines : Standing → ℕ → List Line → Type 0
+CommitLines Serving target ls = ((numbers : List ℕ) × (ls ≡ lines.Stable target numbers ∷ [])) ⊎ (ls ≡ lines.Down target ∷ [])
+CommitLines Opened target ls = ls ≡ lines.State target Opened ∷ []
+CommitLines Down target ls = ls ≡ lines.State target Down ∷ []
 
--- A turn: a command that may come, and its group of lines, each of which the machine may say.
+abbrev pub CrashLines : Standing → ℕ → List Line → Type 0
+CrashLines Serving target ls = ls ≡ lines.Down target ∷ []
+CrashLines Opened target ls = ls ≡ lines.Down target ∷ []
+CrashLines Down target ls = ls ≡ lines.State target Down ∷ []
+
+-- a restart of a target that is down: it comes up, or stays down; its disk may turn out to be damaged
+abbrev pub RestartLines : Standing → ℕ → List Line → Type 0
+RestartLines Serving target ls = ls ≡ lines.State target Serving ∷ []
+RestartLines Opened target ls = ls ≡ lines.State target Opened ∷ []
+RestartLines Down target ls =
+    ((transno : ℕ) × (numbers : List ℕ) × (ls ≡ lines.Up target transno numbers ∷ []))
+    ⊎ ((ls ≡ lines.Down target ∷ [])
+    ⊎ (((gates : ℕ) × (ls ≡ lines.DamagedGates target gates ∷ []))
+    ⊎ ((place : ℕ) × (ls ≡ lines.DamagedImage target place ∷ []))))
+
+abbrev pub TreeLines : Standing → List Line → Type 0
+TreeLines Serving ls = (grown : Grown) × (ls ≡ lines.Tree grown ∷ [])
+TreeLines Opened ls = ls ≡ lines.TreeState 0 ∷ []
+TreeLines Down ls = ls ≡ lines.TreeState 0 ∷ []
+
+-- the end commits a target that serves
+abbrev pub EndLines : Standing → List Line → Type 0
+EndLines Serving ls =
+    ((numbers : List ℕ) × (ls ≡ lines.Stable 0 numbers ∷ lines.EndClean ∷ [])) ⊎ (ls ≡ lines.Down 0 ∷ lines.EndUnclean 0 ∷ [])
+EndLines Opened ls = ls ≡ lines.EndUnclean 0 ∷ []
+EndLines Down ls = ls ≡ lines.EndUnclean 0 ∷ []
+
+-- which lines a command may have, by the target's standing before it
+abbrev pub IsGroup : Standing → Entry → List Line → Type 0
+IsGroup s (Skip line) ls = ls ≡ []
+IsGroup s (Order (commands.Cluster targets)) ls = (ls ≡ []) ⊎ (ls ≡ lines.Down 0 ∷ [])
+IsGroup s (Order (commands.Send r)) ls = ls ≡ []
+IsGroup s (Order commands.Settle) ls = AllByRecursion IsAnswer ls
+IsGroup s (Order commands.Tree) ls = TreeLines s ls
+IsGroup s (Order commands.End) ls = EndLines s ls
+IsGroup s (Order (commands.Commit target)) ls = CommitLines s target ls
+IsGroup s (Order (commands.Crash target)) ls = CrashLines s target ls
+IsGroup s (Order (commands.Restart target)) ls = RestartLines s target ls
+IsGroup s (Order (commands.Fuse target after choice)) ls = ls ≡ []
+
+-- A turn: what may stand on a line, and its group of lines, each of which the machine may say.
 abbrev pub Turn : State → Group → State → Type 0
-Turn old g new =
-    IsTaken old.asked g.command × IsGroup g.command g.lines
-    × SaysAll (record old { asked = asked_after old.asked g.command }) g.lines new
+Turn old g new = IsTaken old.asked g.entry × IsGroup old.standing g.entry g.lines × SaysAll (begun old g.entry) g.lines new
 
 -- a run: turns one after another
 abbrev pub Run : State → List Group → State → Type 0
 Run old [] new = new ≡ old
 Run old (g ∷ gs) new = (mid : State) × Turn old g mid × Run mid gs new
 
--- the commands, the lines, the bytes of the scenario and the text of a run
-abbrev pub commands_of : List Group → List Command
-commands_of gs = map (λ g. g.command) gs
+-- the entries, the lines, the bytes of the scenario and the text of a run
+abbrev pub entries_of : List Group → List Entry
+entries_of gs = map (λ g. g.entry) gs
 
 abbrev pub lines_of : List Group → List Line
 lines_of gs = flat_map (λ g. g.lines) gs
 
-abbrev pub scenario : List Command → List ℕ
-scenario cs = flat_map (λ c. spelling c ++ 10 ∷ []) cs
+abbrev pub scenario : List Entry → List ℕ
+scenario es = flat_map (λ e. line_of e ++ 10 ∷ []) es
 
 abbrev pub transcript : List Group → List ℕ
 transcript gs = texts (lines_of gs)
 
 -- WHAT A RUN OWES
 
--- a reply line with this number
-abbrev pub HasReply : ℕ → List Line → Type 0
-HasReply number [] = ⊥
-HasReply number (lines.Reply n reply ∷ ls) = (n ≡ number) ⊎ HasReply number ls
-HasReply number (lines.Accept n reply on ∷ ls) = HasReply number ls
-HasReply number (lines.Tree grown ∷ ls) = HasReply number ls
-HasReply number (lines.EndClean ∷ ls) = HasReply number ls
+-- a line that answers the request with this number
+abbrev pub AnswersRequest : ℕ → Line → Type 0
+AnswersRequest number (lines.Accept n reply on) = ⊥
+AnswersRequest number (lines.Reply n reply) = n ≡ number
+AnswersRequest number (lines.Stale n last) = n ≡ number
+AnswersRequest number (lines.Recovering n target) = n ≡ number
+AnswersRequest number (lines.Stable target numbers) = ⊥
+AnswersRequest number (lines.Down target) = ⊥
+AnswersRequest number (lines.Up target transno numbers) = ⊥
+AnswersRequest number (lines.DamagedGates target gates) = ⊥
+AnswersRequest number (lines.DamagedImage target place) = ⊥
+AnswersRequest number (lines.State target standing) = ⊥
+AnswersRequest number (lines.Tree grown) = ⊥
+AnswersRequest number (lines.TreeState target) = ⊥
+AnswersRequest number lines.EndClean = ⊥
+AnswersRequest number (lines.EndUnclean target) = ⊥
 
-abbrev pub HaveReplies : List Request → List Line → Type 0
-HaveReplies rs ls = AllByRecursion (λ r. HasReply r.number ls) rs
+abbrev pub HasAnswer : ℕ → List Line → Type 0
+HasAnswer number [] = ⊥
+HasAnswer number (l ∷ ls) = AnswersRequest number l ⊎ HasAnswer number ls
 
--- after this command each of these requests has its reply among these lines, if it is a settle
-abbrev pub IsServed : Command → List Request → List Line → Type 0
-IsServed commands.Settle sent ls = HaveReplies sent ls
-IsServed (commands.Cluster targets) sent ls = Unit {0}
-IsServed (commands.Send r) sent ls = Unit {0}
-IsServed commands.Tree sent ls = Unit {0}
-IsServed commands.End sent ls = Unit {0}
+abbrev pub HaveAnswers : List Request → List Line → Type 0
+HaveAnswers rs ls = AllByRecursion (λ r. HasAnswer r.number ls) rs
 
--- Completeness: after each settle, every request that was sent before has its reply line.
+abbrev pub is_settle : Entry → Bool
+is_settle (Skip line) = false
+is_settle (Order (commands.Cluster targets)) = false
+is_settle (Order (commands.Send r)) = false
+is_settle (Order commands.Settle) = true
+is_settle (Order commands.Tree) = false
+is_settle (Order commands.End) = false
+is_settle (Order (commands.Commit target)) = false
+is_settle (Order (commands.Crash target)) = false
+is_settle (Order (commands.Restart target)) = false
+is_settle (Order (commands.Fuse target after choice)) = false
+
+-- after a settle each of these requests has its answer among these lines
+abbrev pub IsServed : Entry → List Request → List Line → Type 0
+IsServed e sent ls = is_settle e ≡ true → HaveAnswers sent ls
+
+-- Completeness: after each settle, every request that was sent before has its answer.
 abbrev pub AllServed : Asked → List Line → List Group → Type 0
 AllServed a said [] = Unit {0}
 AllServed a said (g ∷ gs) =
-    IsServed g.command (asked_after a g.command).sent (said ++ g.lines) × AllServed (asked_after a g.command) (said ++ g.lines) gs
+    IsServed g.entry (asked_after a g.entry).sent (said ++ g.lines) × AllServed (asked_after a g.entry) (said ++ g.lines) gs

@@ -1,6 +1,6 @@
--- The one spelling of each command: its words, parted by one space.
-use Rattle.std.specs.Prelude.{◌≡◌, ◌<◌, ◌≤◌, ℕ, List, [], ◌∷◌, codes, Option, Some, None}
-use Rattle.std.specs.List.{join_with_byte}
+-- The one spelling of each command: its words, parted by one space. And the lines that are skipped.
+use Rattle.std.specs.Prelude.{◌≡◌, ◌≢◌, ◌<◌, ◌≤◌, ◌⊎◌, ℕ, List, [], ◌∷◌, codes, Option, Some, None}
+use Rattle.std.specs.List.{join_with_byte, AllByRecursion}
 use Rattle.std.specs.Fmt.{decimal}
 use Rattle.tree_model.specs.OpText.{op_words, IsOp}
 use Rattle.tree_model.specs.declared.op.Request.{Request}
@@ -13,6 +13,10 @@ words_of (commands.Send r) = codes "send" ∷ decimal r.number ∷ decimal r.cli
 words_of commands.Settle = codes "settle" ∷ []
 words_of commands.Tree = codes "tree" ∷ []
 words_of commands.End = codes "end" ∷ []
+words_of (commands.Commit target) = codes "commit" ∷ decimal target ∷ []
+words_of (commands.Crash target) = codes "crash" ∷ decimal target ∷ []
+words_of (commands.Restart target) = codes "restart" ∷ decimal target ∷ []
+words_of (commands.Fuse target after choice) = codes "fuse" ∷ decimal target ∷ decimal after ∷ decimal choice ∷ []
 
 abbrev pub spelling : Command → List ℕ
 spelling c = join_with_byte 32 (words_of c)
@@ -22,6 +26,11 @@ abbrev pub IsRequest : Option ℕ → Request → Type 0
 IsRequest None r = ⊥
 IsRequest (Some targets) r = (1 ≤ r.number) × (r.number ≤ 65536) × (r.client < 64) × IsOp targets r.op
 
+-- a target of the cluster
+abbrev pub IsTarget : Option ℕ → ℕ → Type 0
+IsTarget None target = ⊥
+IsTarget (Some targets) target = (target < targets) × (target < 16)
+
 -- what has a spelling, where this cluster was made
 abbrev pub IsCommand : Option ℕ → Command → Type 0
 IsCommand cluster (commands.Cluster targets) = targets ≡ 1
@@ -29,3 +38,28 @@ IsCommand cluster (commands.Send r) = IsRequest cluster r
 IsCommand cluster commands.Settle = Unit {0}
 IsCommand cluster commands.Tree = Unit {0}
 IsCommand cluster commands.End = Unit {0}
+IsCommand cluster (commands.Commit target) = IsTarget cluster target
+IsCommand cluster (commands.Crash target) = IsTarget cluster target
+IsCommand cluster (commands.Restart target) = IsTarget cluster target
+IsCommand cluster (commands.Fuse target after choice) = IsTarget cluster target × (after ≤ 1000000) × (choice ≤ 255)
+
+-- a line that is skipped: it is empty, or begins with `#`
+abbrev pub IsSkipped : List ℕ → Type 0
+IsSkipped line = (line ≡ []) ⊎ ((rest : List ℕ) × (line ≡ 0x23 ∷ rest))
+
+-- what stands on a line: something that is skipped, or a command
+pub data Entry : Type 0 where
+  Skip : (line : List ℕ) → Entry
+  Order : (command : Command) → Entry
+
+abbrev pub line_of : Entry → List ℕ
+line_of (Skip line) = line
+line_of (Order c) = spelling c
+
+abbrev pub NoFeed : List ℕ → Type 0
+NoFeed line = AllByRecursion (λ b. b ≢ 10) line
+
+-- what may stand on a line, where this cluster was made
+abbrev pub IsEntry : Option ℕ → Entry → Type 0
+IsEntry cluster (Skip line) = IsSkipped line × NoFeed line
+IsEntry cluster (Order c) = IsCommand cluster c

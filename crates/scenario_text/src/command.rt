@@ -1,6 +1,6 @@
-ghost use Rattle.std.specs.Prelude.{◌≡◌, ◌≢◌, ◌≤◌, ◌∷◌, [], ℕ, map, IfOk};
+ghost use Rattle.std.specs.Prelude.{◌≡◌, ◌≢◌, ◌≤◌, ◌∷◌, [], ℕ, codes, map, IfOk};
 ghost use Rattle.std.specs.Fmt.{decimal};
-ghost use Rattle.scenario_text.specs.Spelling.{IsCommand, spelling, words_of};
+ghost use Rattle.scenario_text.specs.Spelling.{IsCommand, IsTarget, spelling, words_of};
 
 use fid_space::Cluster;
 use std::alloc::Global;
@@ -19,6 +19,15 @@ pub enum Command {
     Tree,
     /// Ends the scenario.
     End,
+    /// Commits what a target has accepted.
+    Commit(u8),
+    /// Stops a target: it loses all but its disk.
+    Crash(u8),
+    /// Starts a target that is down, from its disk.
+    Restart(u8),
+    /// Lets so many writes and syncs of a target's disk pass, and fails the next one. The choice says which
+    /// of the bytes that aren't settled a restart finds: those whose offset modulo 8 is a bit of it.
+    Fuse { target: u8, after: u32, choice: u8 },
 }
 
 /// Why a line was refused.
@@ -53,7 +62,9 @@ fn of_words(alloc: Global, words: &[&[u8]], cluster: Option<Cluster>) -> Result<
     match words {
         [one] => of_one(*one, cluster),
         [one, two] => of_two(alloc, *one, *two, cluster),
-        [send, number, client, op @ ..] => of_send(alloc, *send, *number, *client, op, cluster),
+        [first, second, third, rest @ ..] => {
+            of_more(alloc, *first, *second, *third, rest, cluster)
+        }
         _ => Err(TextFault::NotYet),
     }
 }
@@ -84,10 +95,26 @@ fn of_two(
     ensures ok { IfOk result (λ c. IsCommand cluster c × (first.now ∷ second.now ∷ [] ≡ words_of c)) }
     ensures refused { result ≡ Err TextFault.NotYet → (c : _) → IsCommand cluster c → first.now ∷ second.now ∷ [] ≢ words_of c }
 {
-    let _ = cluster;
-    if first != b"cluster".as_slice() {
-        return Err(TextFault::NotYet);
+    if first == b"cluster".as_slice() {
+        return of_cluster(alloc, second, cluster);
     }
+    if first == b"commit".as_slice() {
+        return Ok(Command::Commit(target_in(alloc, second, cluster)?));
+    }
+    if first == b"crash".as_slice() {
+        return Ok(Command::Crash(target_in(alloc, second, cluster)?));
+    }
+    if first == b"restart".as_slice() {
+        return Ok(Command::Restart(target_in(alloc, second, cluster)?));
+    }
+    Err(TextFault::NotYet)
+}
+
+fn of_cluster(alloc: Global, second: &[u8], cluster: Option<Cluster>) -> Result<Command, TextFault>
+    ensures ok { IfOk result (λ c. IsCommand cluster c × (codes "cluster" ∷ second.now ∷ [] ≡ words_of c)) }
+    ensures refused { result ≡ Err TextFault.NotYet → (c : _) → IsCommand cluster c → codes "cluster" ∷ second.now ∷ [] ≢ words_of c }
+{
+    let _ = cluster;
     let targets = match number(alloc, second) {
         Ok(Some(targets)) => targets,
         Ok(None) => return Err(TextFault::NotYet),
@@ -102,22 +129,81 @@ fn of_two(
     }
 }
 
+/// Reads three words or more.
+fn of_more(
+    alloc: Global,
+    first: &[u8],
+    second: &[u8],
+    third: &[u8],
+    rest: &[&[u8]],
+    cluster: Option<Cluster>,
+) -> Result<Command, TextFault>
+    ensures ok { IfOk result (λ c. IsCommand cluster c
+        × (first.now ∷ second.now ∷ third.now ∷ map (λ w. w.now) rest.now ≡ words_of c)) }
+    ensures refused { result ≡ Err TextFault.NotYet → (c : _) → IsCommand cluster c
+        → first.now ∷ second.now ∷ third.now ∷ map (λ w. w.now) rest.now ≢ words_of c }
+{
+    if first == b"send".as_slice() {
+        return of_send(alloc, second, third, rest, cluster);
+    }
+    if first == b"fuse".as_slice() {
+        return of_fuse(alloc, second, third, rest, cluster);
+    }
+    Err(TextFault::NotYet)
+}
+
+fn of_fuse(
+    alloc: Global,
+    target: &[u8],
+    after: &[u8],
+    rest: &[&[u8]],
+    cluster: Option<Cluster>,
+) -> Result<Command, TextFault>
+    ensures ok { IfOk result (λ c. IsCommand cluster c
+        × (codes "fuse" ∷ target.now ∷ after.now ∷ map (λ w. w.now) rest.now ≡ words_of c)) }
+    ensures refused { result ≡ Err TextFault.NotYet → (c : _) → IsCommand cluster c
+        → codes "fuse" ∷ target.now ∷ after.now ∷ map (λ w. w.now) rest.now ≢ words_of c }
+{
+    match rest {
+        [choice] => fuse_of(alloc, target, after, *choice, cluster),
+        _ => Err(TextFault::NotYet),
+    }
+}
+
+fn fuse_of(
+    alloc: Global,
+    target_word: &[u8],
+    after_word: &[u8],
+    choice_word: &[u8],
+    cluster: Option<Cluster>,
+) -> Result<Command, TextFault>
+    ensures ok { IfOk result (λ c. IsCommand cluster c
+        × (codes "fuse" ∷ target_word.now ∷ after_word.now ∷ choice_word.now ∷ [] ≡ words_of c)) }
+    ensures refused { result ≡ Err TextFault.NotYet → (c : _) → IsCommand cluster c
+        → codes "fuse" ∷ target_word.now ∷ after_word.now ∷ choice_word.now ∷ [] ≢ words_of c }
+{
+    let target = target_in(alloc, target_word, cluster)?;
+    let after = number_in(alloc, after_word, 0, 1_000_000)?;
+    let choice = number_in(alloc, choice_word, 0, 255)?;
+    Ok(Command::Fuse {
+        target,
+        after,
+        choice: choice as u8,
+    })
+}
+
 fn of_send(
     alloc: Global,
-    send: &[u8],
     number_word: &[u8],
     client_word: &[u8],
     op_words: &[&[u8]],
     cluster: Option<Cluster>,
 ) -> Result<Command, TextFault>
     ensures ok { IfOk result (λ c. IsCommand cluster c
-        × (send.now ∷ number_word.now ∷ client_word.now ∷ map (λ w. w.now) op_words.now ≡ words_of c)) }
+        × (codes "send" ∷ number_word.now ∷ client_word.now ∷ map (λ w. w.now) op_words.now ≡ words_of c)) }
     ensures refused { result ≡ Err TextFault.NotYet → (c : _) → IsCommand cluster c
-        → send.now ∷ number_word.now ∷ client_word.now ∷ map (λ w. w.now) op_words.now ≢ words_of c }
+        → codes "send" ∷ number_word.now ∷ client_word.now ∷ map (λ w. w.now) op_words.now ≢ words_of c }
 {
-    if send != b"send".as_slice() {
-        return Err(TextFault::NotYet);
-    }
     let cluster = match cluster {
         Some(cluster) => cluster,
         None => return Err(TextFault::NotYet),
@@ -152,4 +238,17 @@ fn number_in(alloc: Global, word: &[u8], least: u32, most: u32) -> Result<u32, T
         return Err(TextFault::NotYet);
     }
     Ok(n)
+}
+
+/// Reads the number of a target of the cluster.
+fn target_in(alloc: Global, word: &[u8], cluster: Option<Cluster>) -> Result<u8, TextFault>
+    ensures ok { IfOk result (λ t. IsTarget cluster t × (word.now ≡ decimal t)) }
+    ensures refused { result ≡ Err TextFault.NotYet → (t : ℕ) → IsTarget cluster t → word.now ≢ decimal t }
+{
+    let cluster = match cluster {
+        Some(cluster) => cluster,
+        None => return Err(TextFault::NotYet),
+    };
+    let target = number_in(alloc, word, 0, u32::from(cluster.targets() - 1))?;
+    Ok(target as u8)
 }

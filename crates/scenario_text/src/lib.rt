@@ -16,9 +16,13 @@ mod transcripts;
 pub use command::{Command, TextFault};
 pub use laws::{
     a_run_accepts_each_number_once, a_run_has_a_legal_history, commands_come_in_order,
-    one_spelling_per_command,
+    one_entry_per_line, one_spelling_per_command,
 };
-pub use line::{Line, print_accept, print_reply};
+pub use line::{
+    Line, Standing, print_accept, print_damaged_gates, print_damaged_image, print_down,
+    print_end_unclean, print_recovering, print_reply, print_stable, print_stale, print_state,
+    print_tree_state, print_up,
+};
 pub use transcripts::{empty_transcript, first_transcript};
 
 #[cfg(test)]

@@ -1,9 +1,9 @@
-ghost use Rattle.std.specs.Prelude.{◌≡◌, ◌++◌, ◌∷◌, OnOk, IfOk};
+ghost use Rattle.std.specs.Prelude.{◌≡◌, ◌++◌, ◌∷◌, drop, OnOk, IfOk};
 ghost use Rattle.std.specs.Fmt.{decimal};
 ghost use Rattle.std.specs.List.{flat_map};
 ghost use Rattle.scenario_text.specs.LineText.{after_comma, list_text, members, targets_text};
 
-use fid_space::{Bytes, Targets};
+use fid_space::{Bytes, Numbers, Targets};
 use std::alloc::{AllocError as Memory, Global};
 
 /// Adds a number in decimal digits.
@@ -12,6 +12,49 @@ pub fn print_number(number: u32, out: &mut Bytes) -> Result<(), Memory>
 {
     let text = number.to_string(out.alloc())?;
     out.append(text.as_bytes())
+}
+
+/// Adds a longer number in decimal digits.
+pub fn print_long(number: u64, out: &mut Bytes) -> Result<(), Memory>
+    ensures { OnOk result (out.new ≡ out.old ++ decimal number) }
+{
+    let text = number.to_string(out.alloc())?;
+    out.append(text.as_bytes())
+}
+
+/// Adds the numbers of a list with commas between them, or a dash where there is none.
+pub fn print_numbers(numbers: &Numbers, out: &mut Bytes) -> Result<(), Memory>
+    ensures { OnOk result (out.new ≡ out.old ++ list_text numbers.now) }
+{
+    match numbers.get(0) {
+        None => out.append(b"-"),
+        Some(first) => {
+            print_number(first, out)?;
+            print_after(numbers, out)?;
+            Ok(())
+        }
+    }
+}
+
+/// Adds all numbers but the first, each with a comma before it.
+fn print_after(numbers: &Numbers, out: &mut Bytes) -> Result<(), Memory>
+    ensures { OnOk result (out.new ≡ out.old ++ flat_map after_comma (drop 1 numbers.now)) }
+{
+    for i in 1..numbers.len() {
+        match numbers.get(i) {
+            Some(number) => print_next(number, out)?,
+            None => return Ok(()),
+        }
+    }
+    Ok(())
+}
+
+/// Adds a number with a comma before it.
+fn print_next(number: u32, out: &mut Bytes) -> Result<(), Memory>
+    ensures { OnOk result (out.new ≡ out.old ++ after_comma number) }
+{
+    out.push(b',')?;
+    print_number(number, out)
 }
 
 /// Adds numbers with commas between them, or a dash where there is none.
@@ -32,8 +75,7 @@ fn print_rest(numbers: &[u32], out: &mut Bytes) -> Result<(), Memory>
     ensures { OnOk result (out.new ≡ out.old ++ flat_map after_comma numbers.now) }
 {
     for number in numbers {
-        out.push(b',')?;
-        print_number(*number, out)?;
+        print_next(*number, out)?;
     }
     Ok(())
 }

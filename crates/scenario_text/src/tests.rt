@@ -1,5 +1,6 @@
 use super::*;
-use fid_space::{Bytes, Cluster, Fid, Targets};
+use fid_space::{Bytes, Cluster, Fid, Numbers, Targets};
+use std::alloc::Global;
 use std::test::Fail;
 use tree_model::{Errno, Op, PlainTree, Reply};
 
@@ -10,6 +11,10 @@ fn kind(read: &Result<Command, TextFault>) -> &'static str {
         Ok(Command::Settle) => "settle",
         Ok(Command::Tree) => "tree",
         Ok(Command::End) => "end",
+        Ok(Command::Commit(_)) => "commit",
+        Ok(Command::Crash(_)) => "crash",
+        Ok(Command::Restart(_)) => "restart",
+        Ok(Command::Fuse { .. }) => "fuse",
         Err(TextFault::NotYet) => "NotYet",
         Err(TextFault::Memory) => "Memory",
     }
@@ -17,7 +22,7 @@ fn kind(read: &Result<Command, TextFault>) -> &'static str {
 
 #[test]
 fn reads_commands(rt: HostRuntime) {
-    let rows: [(&str, bool, &str); 36] = [
+    let rows: [(&str, bool, &str); 52] = [
         ("cluster 1", false, "cluster"),
         ("cluster 1", true, "cluster"),
         ("settle", true, "settle"),
@@ -118,6 +123,26 @@ fn reads_commands(rt: HostRuntime) {
         ("Settle", true, "NotYet"),
         ("tree\r", true, "NotYet"),
         ("end end", true, "NotYet"),
+        ("commit 0", true, "commit"),
+        ("crash 0", true, "crash"),
+        ("restart 0", true, "restart"),
+        ("fuse 0 1000000 255", true, "fuse"),
+        ("fuse 0 0 0", true, "fuse"),
+        ("commit 0", false, "NotYet"),
+        ("commit 1", true, "NotYet"),
+        ("crash", true, "NotYet"),
+        ("crash 00", true, "NotYet"),
+        ("restart 0 0", true, "NotYet"),
+        ("fuse 0 1000001 0", true, "NotYet"),
+        ("fuse 0 0 256", true, "NotYet"),
+        ("fuse 1 0 0", true, "NotYet"),
+        ("fuse 0 0", true, "NotYet"),
+        ("fuse 0 0 0 0", true, "NotYet"),
+        (
+            "send 1 0 create [0x200000007:0x1:0x0] %00 [0x200000400:0x1:0x0]",
+            true,
+            "NotYet",
+        ),
     ];
     for (line, made, want) in rows {
         let cluster = if made { Cluster::new(1) } else { None };
@@ -149,6 +174,14 @@ fn reads_the_parts_of_a_request(rt: HostRuntime) {
         }
         _ => assert!(rt; false, "no request"),
     }
+}
+
+fn numbers(alloc: Global, of: &[u32]) -> Result<Numbers, Fail> {
+    let mut numbers = Numbers::new(alloc);
+    for number in of {
+        numbers.push(*number)?;
+    }
+    Ok(numbers)
 }
 
 #[test]
@@ -204,6 +237,74 @@ fn prints_lines(rt: HostRuntime) -> Result<(), Fail> {
             "tree 1 0\nnode [0x200000007:0x1:0x0] dir 0755 0 0 2\n",
         ),
         (Line::EndClean, "end clean\n"),
+        (Line::Stale { number: 1, last: 2 }, "stale 1 last 2\n"),
+        (
+            Line::Recovering {
+                number: 7,
+                target: 0,
+            },
+            "recovering 7 target 0\n",
+        ),
+        (
+            Line::Stable {
+                target: 0,
+                numbers: numbers(rt.alloc(), &[])?,
+            },
+            "stable 0 -\n",
+        ),
+        (
+            Line::Stable {
+                target: 15,
+                numbers: numbers(rt.alloc(), &[3, 1, 65_536])?,
+            },
+            "stable 15 3,1,65536\n",
+        ),
+        (Line::Down(3), "down 3\n"),
+        (
+            Line::Up {
+                target: 0,
+                transno: 2,
+                numbers: numbers(rt.alloc(), &[2, 1])?,
+            },
+            "up 0 transno 2 holds 2,1\n",
+        ),
+        (
+            Line::DamagedGates {
+                target: 0,
+                gates: 3,
+            },
+            "damaged 0 gates 3\n",
+        ),
+        (
+            Line::DamagedImage {
+                target: 0,
+                place: 33_546_224,
+            },
+            "damaged 0 image 33546224\n",
+        ),
+        (
+            Line::State {
+                target: 0,
+                standing: Standing::Opened,
+            },
+            "state 0 opened\n",
+        ),
+        (
+            Line::State {
+                target: 1,
+                standing: Standing::Serving,
+            },
+            "state 1 serving\n",
+        ),
+        (
+            Line::State {
+                target: 2,
+                standing: Standing::Down,
+            },
+            "state 2 down\n",
+        ),
+        (Line::TreeState(0), "tree state 0\n"),
+        (Line::EndUnclean(0), "end unclean target 0\n"),
     ];
     for (line, want) in rows {
         let mut out = Bytes::new(rt.alloc());
@@ -219,6 +320,7 @@ fn prints_the_worked_transcripts(rt: HostRuntime) -> Result<(), Fail> {
     let mut tree = PlainTree::new(rt.alloc(), cluster)?;
     let mut empty = Bytes::new(rt.alloc());
     tree.print(&mut empty)?;
+    print_stable(0, &Numbers::new(rt.alloc()), &mut empty)?;
     Line::EndClean.print(&mut empty)?;
     assert_eq!(rt; empty.bytes(), empty_transcript().as_bytes());
 
@@ -230,6 +332,7 @@ fn prints_the_worked_transcripts(rt: HostRuntime) -> Result<(), Fail> {
         print_accept(1, &reply, Targets::none().with(0), &mut first)?;
         print_reply(1, &reply, &mut first)?;
         tree.print(&mut first)?;
+        print_stable(0, &numbers(rt.alloc(), &[1])?, &mut first)?;
         Line::EndClean.print(&mut first)?;
     }
     assert_eq!(rt; first.bytes(), first_transcript().as_bytes());

@@ -6,12 +6,12 @@ ghost use Rattle.scenario_text.specs.Worked.{IsTranscript};
 pub fn first_transcript() -> &'static str
     ensures { IsTranscript (codes "cluster 1\nsend 1 0 create [0x200000007:0x1:0x0] a [0x200000400:0x1:0x0]\nsettle\ntree\nend\n") result.now }
 {
-    "accept 1 OK on 0\nreply 1 OK\ntree 2 1\nnode [0x200000007:0x1:0x0] dir 0755 0 0 2\nnode [0x200000400:0x1:0x0] file 0644 0 0 1\nentry [0x200000007:0x1:0x0] a [0x200000400:0x1:0x0]\nend clean\n"
+    "accept 1 OK on 0\nreply 1 OK\ntree 2 1\nnode [0x200000007:0x1:0x0] dir 0755 0 0 2\nnode [0x200000400:0x1:0x0] file 0644 0 0 1\nentry [0x200000007:0x1:0x0] a [0x200000400:0x1:0x0]\nstable 0 1\nend clean\n"
 }
 
 /// The transcript of a scenario that shows a new cluster's tree: it has the root alone.
 pub fn empty_transcript() -> &'static str
     ensures { IsTranscript (codes "cluster 1\ntree\nend\n") result.now }
 {
-    "tree 1 0\nnode [0x200000007:0x1:0x0] dir 0755 0 0 2\nend clean\n"
+    "tree 1 0\nnode [0x200000007:0x1:0x0] dir 0755 0 0 2\nstable 0 -\nend clean\n"
 }

@@ -14,6 +14,8 @@ returns-in-Err-clause-words g c = λ _.
 
 pub returns-clause-complete : goal.returns-clause-complete
 returns-clause-complete g c = λ _ bytes told scenario quiet silent.
-    let o = c.play.ensures.outcome in
+    let d = c.play_first.ensures.disks in
+    let o = d.6 in
+    let shown = g.D.Disk.shown in
     subst (λ (n : ℕ). (n ≡ 0) ⊎ (n ≡ 3)) (sym c.code_of.ensures)
-    (completes _ _ bytes o.0 o.1 c.play.result told o.2 scenario o.4 (λ e. quiet (c.play.ensures.source e)) (λ e. silent (c.play.ensures.sink e)))
+    (completes (shown d.0) (shown d.1) _ _ bytes o.0 o.1 c.play_first.result told o.2 scenario o.4 (λ e. quiet (c.play_first.ensures.source e)) (λ e. silent (c.play_first.ensures.sink e)))

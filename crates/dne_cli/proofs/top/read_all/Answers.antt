@@ -4,12 +4,13 @@ use Rattle.std.proofs.KnownBytes.{Appends-nil, Appends-trans, Consumes-nil, Cons
 use Rattle.dne_cli.specs.Reached.{status_of}
 use Rattle.dne_cli.proofs.Stops.{moved}
 use Rattle.dne_cli.proofs.Endings.{outcome_mono, outcome_as}
+use Rattle.dne_cli.proofs.Touching.{touches_refl, touches_trans}
 use Rattle.dne_cli.proofs.top.read_all.Goals as goal
 
 pub loop-player-init : goal.loop-player-init
 loop-player-init g c = record {
   room = c.requires;
-  reached = λ bytes text r. (
+  reached = λ first bytes text r. (
     [],
     [],
     Consumes-nil (g.I.Source.left c.args.input.now),
@@ -18,17 +19,18 @@ loop-player-init g c = record {
   );
   later_source = omega arith;
   later_sink = omega arith;
+  touches = touches_refl c.args.player.now.session.target.disk;
 }
 
 pub returns-in-Err-clause-outcome : goal.returns-in-Err-clause-outcome
-returns-in-Err-clause-outcome g c = λ bytes text r.
-    let a = c.loop-player.invariant.reached bytes text r in
+returns-in-Err-clause-outcome g c = λ first bytes text r.
+    let a = c.loop-player.invariant.reached first bytes text r in
     (a.0, a.1, Consumes-kept _ _ _ a.0 a.2 c.in-Err.ensures.bytes, a.3, a.4.place)
 
 pub returns-in-Ok-eq0-clause-outcome : goal.returns-in-Ok-eq0-clause-outcome
-returns-in-Ok-eq0-clause-outcome g c = λ bytes text r.
-    let a = c.loop-player.invariant.reached bytes text r in
-    let e = c.finish.ensures.ends (bytes ++ a.0) (text ++ a.1) a.4 in
+returns-in-Ok-eq0-clause-outcome g c = λ first bytes text r.
+    let a = c.loop-player.invariant.reached first bytes text r in
+    let e = c.finish.ensures.ends first (bytes ++ a.0) (text ++ a.1) a.4 in
     let piece = take c.in-Ok-eq0.field-0 c.read.new.into in
     let zero : c.in-Ok-eq0.field-0 ≡ 0 = omega arith in
     let none : piece ≡ [] = ap (λ (n : ℕ). take n c.read.new.into) zero in
@@ -38,30 +40,30 @@ returns-in-Ok-eq0-clause-outcome g c = λ bytes text r.
       a.1 ++ e.0,
       Consumes-trans _ _ _ a.0 piece a.2 c.in-Ok-eq0.ensures.bytes.0,
       Appends-trans _ _ _ a.1 e.0 a.3 e.1,
-      outcome_as End _ _ (bytes ++ (a.0 ++ piece)) (bytes ++ a.0) _ _ refl (ap (λ (p : List ℕ). bytes ++ (a.0 ++ p)) none ∙ ap (λ (p : List ℕ). bytes ++ p) (append-nil a.0)) (sym (append_assoc text a.1 e.0))
-          (outcome_mono (Unit {0}) End (λ _. ended) c.finish.result (bytes ++ a.0) ((text ++ a.1) ++ e.0) e.2),
+      outcome_as End first c.finish.new.self.session.target.disk _ _ (bytes ++ (a.0 ++ piece)) (bytes ++ a.0) _ _ refl (ap (λ (p : List ℕ). bytes ++ (a.0 ++ p)) none ∙ ap (λ (p : List ℕ). bytes ++ p) (append-nil a.0)) (sym (append_assoc text a.1 e.0))
+          (outcome_mono (Unit {0}) End (λ _. ended) first c.finish.new.self.session.target.disk c.finish.result (bytes ++ a.0) ((text ++ a.1) ++ e.0) e.2),
     )
 
 pub returns-in-Err-feed-clause-outcome : goal.returns-in-Err-feed-clause-outcome
-returns-in-Err-feed-clause-outcome g c = λ bytes text r.
-    let a = c.loop-player.invariant.reached bytes text r in
-    let b = c.in-Err-feed.ensures.stop (bytes ++ a.0) (text ++ a.1) a.4 in
+returns-in-Err-feed-clause-outcome g c = λ first bytes text r.
+    let a = c.loop-player.invariant.reached first bytes text r in
+    let b = c.in-Err-feed.ensures.stop first (bytes ++ a.0) (text ++ a.1) a.4 in
     let piece = take c.in-Ok.count c.read.new.into in
     let End : Type 0 = IsAtEnd (g.I.Source.left c.read.new.self) in (
       a.0 ++ piece,
       a.1 ++ b.0,
       Consumes-trans _ _ _ a.0 piece a.2 c.in-Ok.ensures.bytes.0,
       Appends-trans _ _ _ a.1 b.0 a.3 b.1,
-      outcome_as End _ (status_of c.in-Err-feed.stop) _ _ _ _ c.status_of.ensures.value (sym (append_assoc bytes a.0 piece)) (sym (append_assoc text a.1 b.0))
-          (outcome_mono ⊥ End (λ x. absurd x) (status_of c.in-Err-feed.stop) ((bytes ++ a.0) ++ piece) ((text ++ a.1) ++ b.0) b.2),
+      outcome_as End first c.feed.new.self.session.target.disk _ (status_of c.in-Err-feed.stop) _ _ _ _ c.status_of.ensures.value (sym (append_assoc bytes a.0 piece)) (sym (append_assoc text a.1 b.0))
+          (outcome_mono ⊥ End (λ x. absurd x) first c.feed.new.self.session.target.disk (status_of c.in-Err-feed.stop) ((bytes ++ a.0) ++ piece) ((text ++ a.1) ++ b.0) b.2),
     )
 
 pub loop-player-preserved : goal.loop-player-preserved
 loop-player-preserved g c = record {
   room = search rules;
-  reached = λ bytes text r.
-      let a = c.loop-player.invariant.reached bytes text r in
-      let b = c.in-Ok-feed.ensures.ok (bytes ++ a.0) (text ++ a.1) a.4 in
+  reached = λ first bytes text r.
+      let a = c.loop-player.invariant.reached first bytes text r in
+      let b = c.in-Ok-feed.ensures.ok first (bytes ++ a.0) (text ++ a.1) a.4 in
       let piece = take c.in-Ok.count c.read.new.into in (
         a.0 ++ piece,
         a.1 ++ b.0,
@@ -71,9 +73,16 @@ loop-player-preserved g c = record {
       );
   later_source = omega (arith, c.loop-player.invariant.later_source, c.in-Ok.ensures.cause.later);
   later_sink = omega (arith, c.loop-player.invariant.later_sink, c.in-Ok-feed.ensures.later);
+  touches = touches_trans _ _ _ c.loop-player.invariant.touches c.in-Ok-feed.ensures.touches;
 }
 
 pub loop-player-smaller : goal.loop-player-smaller
 loop-player-smaller g c =
     let size = length-take c.in-Ok.count c.read.new.into in
     omega (arith, c.in-Ok-feed.ensures.grows, size, c.in-Ok.ensures.bound, c.feed.new.self.limited)
+
+pub returns-in-Ok-eq0-clause-touches : goal.returns-in-Ok-eq0-clause-touches
+returns-in-Ok-eq0-clause-touches g c = touches_trans _ _ _ c.loop-player.invariant.touches c.finish.ensures.touches
+
+pub returns-in-Err-feed-clause-touches : goal.returns-in-Err-feed-clause-touches
+returns-in-Err-feed-clause-touches g c = touches_trans _ _ _ c.loop-player.invariant.touches c.in-Err-feed.ensures.touches

@@ -1,5 +1,7 @@
 use Rattle.std.proofs.Common.{◌<◌, ◌≤◌, ◌-◌, ℕ, List, ◌++◌, length}
 use Rattle.std.specs.Io.KnownBytes.{Appends, Consumes}
+use Rattle.outside.specs.Disk.{Shown}
+use Rattle.dne_cli.specs.Kept.{Touches}
 use Rattle.dne_cli.specs.Reached.{Reached}
 use Rattle.dne_cli.proofs.top.read_all.Given as goal
 
@@ -9,9 +11,10 @@ invariant-loop-player g l =
     let written = g.O.Sink.written in
     record {
       room : 0 < length l.buffer;
-      reached : (bytes text : List ℕ) → Reached bytes text l.fn.player.session l.fn.player.rest l.fn.player.count l.fn.player.total
+      reached : (first : Shown) (bytes text : List ℕ) → Reached first bytes text l.fn.player.session l.fn.player.rest l.fn.player.count l.fn.player.total
           → (read : List ℕ) × (more : List ℕ) × Consumes (left l.fn.input) (left l.input) read × Appends (written l.fn.output) (written l.output) more
-          × Reached (bytes ++ read) (text ++ more) l.player.session l.player.rest l.player.count l.player.total;
+          × Reached first (bytes ++ read) (text ++ more) l.player.session l.player.rest l.player.count l.player.total;
+      touches : Touches l.fn.player.session.target.disk l.player.session.target.disk;
       later_source : g.I.Source.source_faults l.fn.input ≤ g.I.Source.source_faults l.input;
       later_sink : g.O.Sink.sink_faults l.fn.output ≤ g.O.Sink.sink_faults l.output;
     }

@@ -1,11 +1,11 @@
-use Rattle.std.proofs.Common.{◌++◌, ◌∷◌, ◌+◌, [], inl, inr, refl, sym, ◌∙◌, append-nil}
+use Rattle.std.proofs.Common.{arith, ◌++◌, ◌∷◌, ◌+◌, [], inl, inr, refl, sym, ◌∙◌, append-nil}
 use Rattle.std.proofs.KnownBytes.{Appends-nil}
 use Rattle.dne_cli.proofs.Stops.{reach_line, stops_last, moved}
 use Rattle.dne_cli.proofs.Endings.{is_nil, not_nil}
 use Rattle.dne_cli.proofs.player.Player.close.Goals as goal
 
 pub returns-then-is_empty-clause-ok : goal.returns-then-is_empty-clause-ok
-returns-then-is_empty-clause-ok g c = λ bytes text r.
+returns-then-is_empty-clause-ok g c = λ first bytes text r.
     let none = is_nil c.args.self.now.rest (sym c.is_empty.ensures ∙ c.if-is_empty.true) in (
       bytes,
       [],
@@ -15,7 +15,7 @@ returns-then-is_empty-clause-ok g c = λ bytes text r.
     )
 
 pub returns-in-Ok-clause-ok : goal.returns-in-Ok-clause-ok
-returns-in-Ok-clause-ok g c = λ bytes text r.
+returns-in-Ok-clause-ok g c = λ first bytes text r.
     let ran = c.in-Ok.ensures.ok in
     let total = c.args.self.now.total + 1 in (
       bytes ++ 10 ∷ [],
@@ -25,12 +25,12 @@ returns-in-Ok-clause-ok g c = λ bytes text r.
       (
         total,
         moved (bytes ++ 10 ∷ []) (text ++ ran.0) [] c.run_rest.new.self.count total
-            (reach_line bytes text c.args.self.now.session c.run_rest.new.self.session c.args.self.now.rest ran.0 c.args.self.now.count c.args.self.now.total r ran.1) refl refl refl ran.4 refl,
+            (reach_line first bytes text c.args.self.now.session c.run_rest.new.self.session c.args.self.now.rest ran.0 c.args.self.now.count c.args.self.now.total (omega (arith, c.args.self.now.held, c.args.self.now.limited)) r ran.1) refl refl refl ran.4 refl,
       ),
     )
 
 pub returns-in-Err-clause-stop : goal.returns-in-Err-clause-stop
-returns-in-Err-clause-stop g c = λ bytes text r.
+returns-in-Err-clause-stop g c = λ first bytes text r.
     let ran = c.in-Err.ensures.stop in
     let some = not_nil c.args.self.now.rest (sym c.is_empty.ensures ∙ c.if-is_empty.false) in
-    (ran.0, ran.1, stops_last c.in-Err.stop bytes text c.args.self.now.session c.args.self.now.rest ran.0 c.args.self.now.count c.args.self.now.total r some ran.2)
+    (ran.0, ran.1, stops_last c.in-Err.stop first bytes text c.args.self.now.session c.run_rest.new.self.session c.args.self.now.rest ran.0 c.args.self.now.count c.args.self.now.total (omega (arith, c.args.self.now.held, c.args.self.now.limited)) r some ran.2)

@@ -4,14 +4,16 @@ use Rattle.std.proofs.lemmas.List.{take_all}
 use Rattle.dne_cli.specs.Transcript.{Outcome}
 use Rattle.dne_cli.specs.Reached.{status_of}
 use Rattle.dne_cli.proofs.Stops.{stops_before, moved, piece_more, piece_all}
+use Rattle.dne_cli.proofs.Touching.{touches_refl, touches_trans}
 use Rattle.dne_cli.proofs.player.Player.feed.Goals as goal
 
 pub loop-byte-init : goal.loop-byte-init
 loop-byte-init g c = record {
-  reached = λ bytes text r. ([], Appends-nil (g.O.Sink.written c.args.output.now), moved (bytes ++ []) (text ++ []) c.args.self.now.rest c.args.self.now.count c.args.self.now.total r (append-nil bytes) (append-nil text) refl refl refl);
+  reached = λ first bytes text r. ([], Appends-nil (g.O.Sink.written c.args.output.now), moved (bytes ++ []) (text ++ []) c.args.self.now.rest c.args.self.now.count c.args.self.now.total r (append-nil bytes) (append-nil text) refl refl refl);
   grown = omega arith;
   later = search rules;
   tells = refl;
+  touches = touches_refl c.args.self.now.session.target.disk;
 }
 
 pub loop-byte-preserved : goal.loop-byte-preserved
@@ -19,9 +21,9 @@ loop-byte-preserved g c =
     let i = c.loop-byte.byte-index in
     let piece = c.args.piece.now in
     record {
-      reached = λ bytes text r.
-          let a = c.loop-byte.invariant.reached bytes text r in
-          let b = c.in-Ok.ensures.ok (bytes ++ take i piece) (text ++ a.0) a.2 in (
+      reached = λ first bytes text r.
+          let a = c.loop-byte.invariant.reached first bytes text r in
+          let b = c.in-Ok.ensures.ok first (bytes ++ take i piece) (text ++ a.0) a.2 in (
             a.0 ++ b.0,
             Appends-trans _ _ _ a.0 b.0 a.1 b.1,
             moved (bytes ++ take (i + 1) piece) (text ++ (a.0 ++ b.0)) c.feed_byte.new.self.rest c.feed_byte.new.self.count c.feed_byte.new.self.total b.2 (piece_more bytes piece i c.loop-byte-test.true) (sym (append_assoc text a.0 b.0)) refl refl refl,
@@ -29,25 +31,29 @@ loop-byte-preserved g c =
       grown = omega (arith, c.loop-byte.invariant.grown, c.in-Ok.ensures.grows);
       later = omega (arith, c.loop-byte.invariant.later, c.in-Ok.ensures.later);
       tells = c.in-Ok.ensures.tells ∙ c.loop-byte.invariant.tells;
+      touches = touches_trans _ _ _ c.loop-byte.invariant.touches c.in-Ok.ensures.touches;
     }
 
 pub returns-in-Err-clause-stop : goal.returns-in-Err-clause-stop
-returns-in-Err-clause-stop g c = λ bytes text r.
+returns-in-Err-clause-stop g c = λ first bytes text r.
     let i = c.loop-byte.byte-index in
     let piece = c.args.piece.now in
-    let a = c.loop-byte.invariant.reached bytes text r in
-    let b = c.in-Err.ensures.stop (bytes ++ take i piece) (text ++ a.0) a.2 in
+    let a = c.loop-byte.invariant.reached first bytes text r in
+    let b = c.in-Err.ensures.stop first (bytes ++ take i piece) (text ++ a.0) a.2 in
     let one = (bytes ++ take i piece) ++ get_or piece i 0 ∷ [] in (
       a.0 ++ b.0,
       Appends-trans _ _ _ a.0 b.0 a.1 b.1,
-      subst (λ (x : List ℕ). Outcome ⊥ (status_of c.in-Err.stop) x (text ++ (a.0 ++ b.0))) (sym (piece_all bytes piece i c.loop-byte-test.true))
-          (stops_before c.in-Err.stop one (drop (i + 1) piece) (text ++ (a.0 ++ b.0))
-          (subst (λ (t : List ℕ). Outcome ⊥ (status_of c.in-Err.stop) one t) (append_assoc text a.0 b.0) b.2)),
+      subst (λ (x : List ℕ). Outcome ⊥ first c.feed_byte.new.self.session.target.disk (status_of c.in-Err.stop) x (text ++ (a.0 ++ b.0))) (sym (piece_all bytes piece i c.loop-byte-test.true))
+          (stops_before c.in-Err.stop first c.feed_byte.new.self.session.target.disk one (drop (i + 1) piece) (text ++ (a.0 ++ b.0))
+          (subst (λ (t : List ℕ). Outcome ⊥ first c.feed_byte.new.self.session.target.disk (status_of c.in-Err.stop) one t) (append_assoc text a.0 b.0) b.2)),
     )
 
 pub returns-clause-ok : goal.returns-clause-ok
-returns-clause-ok g c = λ bytes text r.
+returns-clause-ok g c = λ first bytes text r.
     let i = c.loop-byte.byte-index in
     let piece = c.args.piece.now in
-    let a = c.loop-byte.invariant.reached bytes text r in
+    let a = c.loop-byte.invariant.reached first bytes text r in
     (a.0, a.1, moved (bytes ++ piece) (text ++ a.0) c.loop-byte.self.rest c.loop-byte.self.count c.loop-byte.self.total a.2 (ap (λ (x : List ℕ). bytes ++ x) (sym (take_all i piece c.loop-byte-test.false))) refl refl refl refl)
+
+pub returns-in-Err-clause-touches : goal.returns-in-Err-clause-touches
+returns-in-Err-clause-touches g c = touches_trans _ _ _ c.loop-byte.invariant.touches c.in-Err.ensures.touches

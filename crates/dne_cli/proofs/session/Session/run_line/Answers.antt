@@ -1,13 +1,22 @@
-use Rattle.std.proofs.Common.{rules, ◌≡◌, sym, ◌∙◌, subst}
+use Rattle.std.proofs.Common.{rules, Option, ℕ, ap, subst}
+use Rattle.scenario_text.specs.Spelling.{IsCommand, IsSkipped, Order}
 use Rattle.scenario_text.specs.Machine.{MayCome}
-use Rattle.scenario_text.specs.declared.command.Command.{Command}
-use Rattle.scenario_text.proofs.OneSpelling.{one_command}
-use Rattle.dne_cli.specs.Kept.{cluster_of}
+use Rattle.dne_cli.specs.Kept.{Kept, is_used}
+use Rattle.dne_cli.proofs.Sessions.{barred_bad, skipped_ok}
 use Rattle.dne_cli.proofs.session.Session.run_line.Goals as goal
 
+pub returns-then-is_skipped-clause-ok : goal.returns-then-is_skipped-clause-ok
+returns-then-is_skipped-clause-ok g c = skipped_ok c.skip.result c.args.self.now c.args.line.now c.args.out.now (c.is_skipped.ensures.0 c.if-is_skipped.true) c.skip.ensures.ok
+
 pub returns-then-not-may_come-clause-refused : goal.returns-then-not-may_come-clause-refused
-returns-then-not-may_come-clause-refused c = λ _ d comes spelled.
-    let same : d ≡ c.in-Ok.command = one_command _ _ d c.in-Ok.command comes.0 c.in-Ok.ensures.ok.0 (sym spelled ∙ c.in-Ok.ensures.ok.1) in
-    let here : MayCome (cluster_of c.args.self.now) c.args.self.now.ended c.args.self.now.last c.in-Ok.command =
-    subst (λ (x : Command). MayCome (cluster_of c.args.self.now) c.args.self.now.ended c.args.self.now.last x) same comes.1 in
-    search rules
+returns-then-not-may_come-clause-refused g c = λ _.
+    let other : IsSkipped c.args.line.now → ⊥ = search rules in
+    let barred : MayCome c.args.self.now.cluster c.args.self.now.ended (is_used c.args.self.now.used) c.in-Ok.command → ⊥ = search rules in
+    let fits : IsCommand c.args.self.now.cluster c.in-Ok.command = subst (λ (a : Option ℕ). IsCommand a c.in-Ok.command) (ap (λ (k : Kept). k.cluster) c.self.view_is) c.in-Ok.ensures.ok.0 in
+    barred_bad c.args.self.now c.args.line.now c.in-Ok.command other fits c.in-Ok.ensures.ok.1 barred
+
+pub returns-in-Ok-obey-clause-ok : goal.returns-in-Ok-obey-clause-ok
+returns-in-Ok-obey-clause-ok g c =
+    let fits : IsCommand c.args.self.now.cluster c.in-Ok.command = subst (λ (a : Option ℕ). IsCommand a c.in-Ok.command) (ap (λ (k : Kept). k.cluster) c.self.view_is) c.in-Ok.ensures.ok.0 in
+    let does = c.in-Ok-obey.ensures.does in
+    (Order c.in-Ok.command, does.0, (fits, c.may_come.ensures.0 c.if-not-may_come.false), c.in-Ok.ensures.ok.1, does.1, does.2)

@@ -1,0 +1,35 @@
+use Rattle.std.proofs.Common.{◌≡◌, Err, sym, ◌∙◌, subst}
+use Rattle.target_disk.specs.Open.{FailsToOpen, Opens}
+use Rattle.target_disk.specs.declared.store.OpenStoreFault.TheVariants as open_fault
+use Rattle.dne_cli.specs.Image.{numbers_in}
+use Rattle.dne_cli.specs.Restart.{BadAt}
+use Rattle.dne_cli.specs.declared.image.ImageFault.TheVariants as image_fault
+use Rattle.dne_cli.proofs.Reopening.{cycled, unread, damaged_gates, damaged_image}
+use Rattle.dne_cli.proofs.target.reopen.Goals as goal
+
+pub returns-in-Err-BadImage-clause-err : goal.returns-in-Err-BadImage-clause-err
+returns-in-Err-BadImage-clause-err g c =
+    let old = g.D.Disk.shown c.args.disk in
+    let mid = g.D.Disk.shown c.power_cycle.new.self in
+    let cycle = cycled c.power_cycle.result old mid (sym c.is_err.ensures.value ∙ c.if-is_err.false) c.power_cycle.ensures.stays c.power_cycle.ensures.cause c.power_cycle.ensures.cycles in
+    let new = g.D.Disk.shown c.in-Ok.store in
+    let opens : Opens mid new c.in-Ok.image = c.in-Ok.ensures.ok in
+    let read : BadAt (image_fault.BadImage c.in-Err-BadImage.place) (numbers_in c.bytes.result.now) = subst (λ e. BadAt e (numbers_in c.bytes.result.now)) c.in-Err-BadImage.field-0-is c.in-Err-BadImage.ensures.bad in
+    let bad : numbers_in c.in-Ok.image ≡ Err c.in-Err-BadImage.place = subst (λ l. numbers_in l ≡ Err c.in-Err-BadImage.place) c.bytes.ensures read in
+    rw c.into_disk.ensures (damaged_image old mid new cycle opens.keeps c.in-Ok.image c.in-Err-BadImage.place (g.met.D.Disk.whole c.power_cycle.new.self).tells opens.opens bad)
+
+pub returns-in-Err-Disk-clause-err : goal.returns-in-Err-Disk-clause-err
+returns-in-Err-Disk-clause-err g c =
+    let old = g.D.Disk.shown c.args.disk in
+    let mid = g.D.Disk.shown c.power_cycle.new.self in
+    let cycle = cycled c.power_cycle.result old mid (sym c.is_err.ensures.value ∙ c.if-is_err.false) c.power_cycle.ensures.stays c.power_cycle.ensures.cause c.power_cycle.ensures.cycles in
+    let failed : FailsToOpen g.D.Disk.shown mid (open_fault.Disk c.in-Err-Disk.disk) = subst (FailsToOpen g.D.Disk.shown mid) c.in-Err-Disk.field-0-is c.in-Err-Disk.ensures.err in
+    rw c.in-Err-Disk.field-0-is (unread old mid (g.D.Disk.shown c.in-Err-Disk.disk) cycle failed.0 failed.1)
+
+pub returns-in-Err-Damaged-clause-err : goal.returns-in-Err-Damaged-clause-err
+returns-in-Err-Damaged-clause-err g c =
+    let old = g.D.Disk.shown c.args.disk in
+    let mid = g.D.Disk.shown c.power_cycle.new.self in
+    let cycle = cycled c.power_cycle.result old mid (sym c.is_err.ensures.value ∙ c.if-is_err.false) c.power_cycle.ensures.stays c.power_cycle.ensures.cause c.power_cycle.ensures.cycles in
+    let failed : FailsToOpen g.D.Disk.shown mid (open_fault.Damaged c.in-Err-Damaged.disk c.in-Err-Damaged.gates) = subst (FailsToOpen g.D.Disk.shown mid) c.in-Err-Damaged.field-0-is c.in-Err-Damaged.ensures.err in
+    rw c.in-Err-Damaged.field-0-is (damaged_gates old mid (g.D.Disk.shown c.in-Err-Damaged.disk) cycle failed.0 (g.met.D.Disk.whole c.power_cycle.new.self).tells (λ tells. (failed.2 tells).0))

@@ -1,0 +1,23 @@
+use Rattle.std.proofs.Common.{[], inl, inr, sym, ap, refl, subst, append-nil}
+use Rattle.outside.specs.Disk.{Shown}
+use Rattle.scenario_text.specs.declared.line.Line.TheVariants as lines
+use Rattle.dne_cli.specs.Kept.{Ledger, Founds, Formatted, Faulted, serving_on}
+use Rattle.dne_cli.specs.Restart.{held_of}
+use Rattle.dne_cli.proofs.Printed.{printed}
+use Rattle.dne_cli.proofs.turns.found_target.Goals as goal
+
+pub returns-in-Ok-clause-lines : goal.returns-in-Ok-clause-lines
+returns-in-Ok-clause-lines g c =
+    let old = (held_of g.D.Disk.shown c.args.target).disk in
+    let new = g.D.Disk.shown c.in-Ok.store in
+    let formatted : Formatted old new = subst (λ (d : Shown). Formatted d new) c.into_disk.ensures c.in-Ok.ensures.ok in
+    ([], inl (new, formatted, ap (λ (l : Ledger). serving_on l new) c.requires, refl), sym (append-nil c.args.out.now))
+
+pub returns-in-Err-clause-lines : goal.returns-in-Err-clause-lines
+returns-in-Err-clause-lines g c =
+    let old = (held_of g.D.Disk.shown c.args.target).disk in
+    let new = held_of g.D.Disk.shown c.halted.result in
+    let faulted : Faulted old (g.D.Disk.shown c.in-Err.disk) = subst (λ (d : Shown). Faulted d (g.D.Disk.shown c.in-Err.disk)) c.into_disk.ensures c.in-Err.ensures.err in
+    printed c.print_down.result c.args.out.now c.print_down.new.out (lines.Down 0) (λ ls. Founds old c.args.ledger.tree.targets new ls)
+    c.print_down.ensures
+    (inr (g.D.Disk.shown c.in-Err.disk, faulted, c.halted.ensures, refl))

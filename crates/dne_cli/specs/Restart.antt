@@ -1,0 +1,28 @@
+-- What starting a target from its disk does, and what a target is seen as.
+use Rattle.std.specs.Prelude.{◌≡◌, ℕ, List, Result, Err}
+use Rattle.outside.specs.Disk.{Shown}
+use Rattle.dne_cli.specs.Kept.{Held, Touches, Damaged, Unread, stopped, opened_on, serving_on}
+use Rattle.dne_cli.specs.declared.image.ImageFault.{ImageFault}
+use Rattle.dne_cli.specs.declared.image.ImageFault.TheVariants as image_fault
+use Rattle.dne_cli.specs.declared.target.Target.{Target}
+use Rattle.dne_cli.specs.declared.target.Target.TheVariants as targets
+use Rattle.dne_cli.specs.declared.target.ReopenFault.{ReopenFault}
+use Rattle.dne_cli.specs.declared.target.ReopenFault.TheVariants as reopen_fault
+
+-- an image that is none says where
+abbrev pub BadAt : ImageFault → Result (List ℕ) ℕ → Type 0
+BadAt (image_fault.BadImage place) read = read ≡ Err place
+BadAt image_fault.Memory read = Unit {0}
+
+-- each answer other than Ok of a start, with the disk that it gives back
+abbrev pub FailsToReopen : {D : Type 0} → (D → Shown) → Shown → ReopenFault D → Type 0
+FailsToReopen shown old (reopen_fault.Disk disk) = Unread old (shown disk)
+FailsToReopen shown old (reopen_fault.Gates disk gates) = Damaged old (shown disk)
+FailsToReopen shown old (reopen_fault.Image disk place) = Damaged old (shown disk)
+FailsToReopen shown old (reopen_fault.Memory disk) = Touches old (shown disk)
+
+-- a target as contracts see it
+abbrev pub held_of : {D : Type 0} → (D → Shown) → Target D → Held
+held_of shown (targets.Serving served) = serving_on served.ledger (shown served.store)
+held_of shown (targets.Opened store) = opened_on (shown store)
+held_of shown (targets.Down halted) = stopped halted.formatted (shown halted.disk)

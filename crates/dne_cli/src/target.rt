@@ -1,0 +1,158 @@
+//! A target: it serves, or was opened, or is down. Each step takes it and gives what it has become.
+ghost use Rattle.std.specs.Prelude.{◌≡◌, ◌≤◌, ◌+◌, [], length, false, true, IfOk, IfErr, is_some};
+ghost use Rattle.target_disk.specs.Slots.{slot_len};
+ghost use Rattle.outside.specs.Disk.{Stays};
+ghost use Rattle.dne_cli.specs.Image.{image_of};
+ghost use Rattle.dne_cli.specs.Kept.{all_stable, Committed, Faulted, Formatted, image_bytes, Reopened, standing_of, Torn};
+ghost use Rattle.dne_cli.specs.Restart.{FailsToReopen, held_of};
+
+use crate::image::{ImageFault, read_numbers};
+use crate::ledger::Ledger;
+use fid_space::Numbers;
+use outside::Plant;
+use scenario_text::Standing;
+use std::alloc::Global;
+use target_disk::{CommitFault, FormatFault, OpenStoreFault, Store};
+
+/// A target that serves: its store, and what it keeps in memory.
+#[derive(Drop)]
+pub struct Served<D: Plant> {
+    pub store: Store<D>,
+    pub ledger: Ledger,
+}
+
+/// A target that is down: its disk, and whether that was formatted.
+#[derive(Drop)]
+pub struct Halted<D: Plant> {
+    pub disk: D,
+    pub formatted: bool,
+}
+
+/// A target.
+#[derive(Drop)]
+pub enum Target<D: Plant> {
+    /// It takes requests.
+    Serving(Served<D>),
+    /// It was started from its disk.
+    Opened(Store<D>),
+    /// It has stopped, or there is no cluster yet.
+    Down(Halted<D>),
+}
+
+/// Why a disk wasn't started from. Each gives the disk back.
+#[derive(Drop)]
+pub enum ReopenFault<D> {
+    /// A call of the disk failed.
+    Disk(D),
+    /// No open gate stands over a readable slot. Bit i is set where gate i is open.
+    Gates(D, u8),
+    /// The bytes are no image from this one on.
+    Image(D, u64),
+    /// Memory ran out.
+    Memory(D),
+}
+
+impl<D: Plant> Target<D> {
+    /// What it does.
+    pub fn standing(&self) -> Standing
+        ensures { result ≡ standing_of (held_of D.shown self.now) }
+    {
+        match self {
+            Target::Serving(_) => Standing::Serving,
+            Target::Opened(_) => Standing::Opened,
+            Target::Down(_) => Standing::Down,
+        }
+    }
+
+    /// Arms the disk, where it has a fuse.
+    pub fn arm(&mut self, after: u32, choice: u8)
+        ensures { held_of D.shown self.new ≡ held_of D.shown self.old }
+    {
+        match self {
+            Target::Serving(served) => served.store.arm(after, choice),
+            Target::Opened(store) => store.arm(after, choice),
+            Target::Down(halted) => halted.disk.arm(after, choice),
+        }
+    }
+
+    /// Gives the disk back.
+    pub fn into_disk(self) -> D
+        ensures { D.shown result ≡ (held_of D.shown self).disk }
+    {
+        match self {
+            Target::Serving(served) => served.store.into_disk(),
+            Target::Opened(store) => store.into_disk(),
+            Target::Down(halted) => halted.disk,
+        }
+    }
+}
+
+/// Makes a disk the store of an image of nothing.
+pub fn format_disk<D: Plant>(alloc: Global, disk: D, image: &[u8]) -> Result<Store<D>, D>
+    requires { image.now ≡ image_of [] }
+    ensures ok { IfOk result (λ s. Formatted (D.shown disk) (D.shown s)) }
+    ensures err { IfErr result (λ d. Faulted (D.shown disk) (D.shown d)) }
+{
+    match Store::format(alloc, disk, image) {
+        Ok(store) => Ok(store),
+        Err(FormatFault::Disk(disk)) => Err(disk),
+        Err(FormatFault::Full(_, _)) => unreachable!(),
+        Err(FormatFault::Memory(_)) => unreachable!(),
+    }
+}
+
+/// Commits what a target keeps in memory. It gives the numbers that are stable since then, or, after a
+/// fault, the disk alone.
+pub fn commit<D: Plant>(served: Served<D>) -> Result<(Served<D>, Numbers), D>
+    requires { served.ledger.count ≤ 65537 }
+    ensures ok { IfOk result (λ p. Committed (image_bytes served.ledger) (D.shown served.store) (D.shown p.0.store)) }
+    ensures ledger { IfOk result (λ p. p.0.ledger ≡ all_stable served.ledger) }
+    ensures numbers { IfOk result (λ p. p.1 ≡ served.ledger.pend) }
+    ensures err { IfErr result (λ d. Torn (image_bytes served.ledger) (D.shown served.store) (D.shown d)) }
+{
+    let mut store = served.store;
+    let mut ledger = served.ledger;
+    match store.commit(ledger.image()) {
+        Ok(()) => {
+            let numbers = ledger.take_pending();
+            Ok((Served { store, ledger }, numbers))
+        }
+        Err(CommitFault::Disk) => Err(store.into_disk()),
+        Err(CommitFault::Full(_)) => unreachable!(),
+    }
+}
+
+/// Starts from a disk that was formatted: stops what it was doing, opens it, and reads the numbers that
+/// its image holds.
+pub fn reopen<D: Plant>(alloc: Global, disk: D) -> Result<(Store<D>, Numbers), ReopenFault<D>>
+    ensures ok { IfOk result (λ p. Reopened (D.shown disk) (D.shown p.0) (length p.1) p.1) }
+    ensures err { IfErr result (λ e. FailsToReopen D.shown (D.shown disk) e) }
+{
+    let mut disk = disk;
+    if disk.power_cycle().is_err() {
+        return Err(ReopenFault::Disk(disk));
+    }
+    match Store::open(alloc, disk) {
+        Ok((store, image)) => match read_numbers(alloc, image.bytes()) {
+            Ok(numbers) => Ok((store, numbers)),
+            Err(ImageFault::BadImage(place)) => Err(ReopenFault::Image(store.into_disk(), place)),
+            Err(ImageFault::Memory) => Err(ReopenFault::Memory(store.into_disk())),
+        },
+        Err(OpenStoreFault::Disk(disk)) => Err(ReopenFault::Disk(disk)),
+        Err(OpenStoreFault::Damaged(disk, gates)) => Err(ReopenFault::Gates(disk, gates)),
+        Err(OpenStoreFault::Memory(disk)) => Err(ReopenFault::Memory(disk)),
+    }
+}
+
+/// Formats again a disk whose formatting failed: it stops what it was doing first.
+pub fn reformat<D: Plant>(alloc: Global, disk: D, image: &[u8]) -> Result<Store<D>, D>
+    requires { image.now ≡ image_of [] }
+    ensures ok { IfOk result (λ s. Formatted (D.shown disk) (D.shown s)) }
+    ensures err { IfErr result (λ d. Faulted (D.shown disk) (D.shown d)) }
+{
+    let mut disk = disk;
+    if disk.power_cycle().is_err() {
+        return Err(disk);
+    }
+    format_disk(alloc, disk, image)
+}

@@ -176,12 +176,110 @@ fn reads_the_parts_of_a_request(rt: HostRuntime) {
     }
 }
 
-fn numbers(alloc: Global, of: &[u32]) -> Result<Numbers, Fail> {
+fn numbers_of(alloc: Global, of: &[u32]) -> Result<Numbers, Fail> {
     let mut numbers = Numbers::new(alloc);
     for number in of {
         numbers.push(*number)?;
     }
     Ok(numbers)
+}
+
+/// The text of a line.
+fn text_of(alloc: Global, line: &Line) -> Result<Bytes, Fail> {
+    let mut out = Bytes::new(alloc);
+    line.print(&mut out)?;
+    Ok(out)
+}
+
+#[test]
+fn prints_lines_of_requests(rt: HostRuntime) -> Result<(), Fail> {
+    let (number, last, target) = (7, 65_536, 15);
+    let rows = [
+        (Line::Stale { number, last }, "stale 7 last 65536\n"),
+        (
+            Line::Recovering { number, target },
+            "recovering 7 target 15\n",
+        ),
+        (Line::TreeState(target), "tree state 15\n"),
+        (Line::EndUnclean(target), "end unclean target 15\n"),
+    ];
+    for (line, want) in rows {
+        assert_eq!(rt;
+            text_of(rt.alloc(), &line)?.bytes(),
+            want.as_bytes(),
+            "{want}"
+        );
+    }
+    Ok(())
+}
+
+#[test]
+fn prints_lists_of_numbers(rt: HostRuntime) -> Result<(), Fail> {
+    let rows: [(&[u32], &str, &str); 3] = [
+        (&[], "stable 3 -\n", "up 3 transno 0 holds -\n"),
+        (&[2], "stable 3 2\n", "up 3 transno 1 holds 2\n"),
+        (
+            &[3, 1, 65_536],
+            "stable 3 3,1,65536\n",
+            "up 3 transno 3 holds 3,1,65536\n",
+        ),
+    ];
+    for (of, stable, up) in rows {
+        let (target, transno) = (3, of.len() as u64);
+        let numbers = numbers_of(rt.alloc(), of)?;
+        let line = Line::Stable { target, numbers };
+        assert_eq!(rt; text_of(rt.alloc(), &line)?.bytes(), stable.as_bytes());
+        let numbers = numbers_of(rt.alloc(), of)?;
+        let line = Line::Up {
+            target,
+            transno,
+            numbers,
+        };
+        assert_eq!(rt; text_of(rt.alloc(), &line)?.bytes(), up.as_bytes());
+    }
+    Ok(())
+}
+
+#[test]
+fn prints_lines_of_targets(rt: HostRuntime) -> Result<(), Fail> {
+    let (target, gates, place) = (2, 3, 33_546_224);
+    let rows = [
+        (Line::Down(target), "down 2\n"),
+        (Line::DamagedGates { target, gates }, "damaged 2 gates 3\n"),
+        (
+            Line::DamagedImage { target, place },
+            "damaged 2 image 33546224\n",
+        ),
+    ];
+    for (line, want) in rows {
+        assert_eq!(rt;
+            text_of(rt.alloc(), &line)?.bytes(),
+            want.as_bytes(),
+            "{want}"
+        );
+    }
+    Ok(())
+}
+
+#[test]
+fn prints_standings(rt: HostRuntime) -> Result<(), Fail> {
+    let rows = [
+        (Standing::Serving, "state 2 serving\n"),
+        (Standing::Opened, "state 2 opened\n"),
+        (Standing::Down, "state 2 down\n"),
+    ];
+    for (standing, want) in rows {
+        let line = Line::State {
+            target: 2,
+            standing,
+        };
+        assert_eq!(rt;
+            text_of(rt.alloc(), &line)?.bytes(),
+            want.as_bytes(),
+            "{want}"
+        );
+    }
+    Ok(())
 }
 
 #[test]
@@ -237,74 +335,6 @@ fn prints_lines(rt: HostRuntime) -> Result<(), Fail> {
             "tree 1 0\nnode [0x200000007:0x1:0x0] dir 0755 0 0 2\n",
         ),
         (Line::EndClean, "end clean\n"),
-        (Line::Stale { number: 1, last: 2 }, "stale 1 last 2\n"),
-        (
-            Line::Recovering {
-                number: 7,
-                target: 0,
-            },
-            "recovering 7 target 0\n",
-        ),
-        (
-            Line::Stable {
-                target: 0,
-                numbers: numbers(rt.alloc(), &[])?,
-            },
-            "stable 0 -\n",
-        ),
-        (
-            Line::Stable {
-                target: 15,
-                numbers: numbers(rt.alloc(), &[3, 1, 65_536])?,
-            },
-            "stable 15 3,1,65536\n",
-        ),
-        (Line::Down(3), "down 3\n"),
-        (
-            Line::Up {
-                target: 0,
-                transno: 2,
-                numbers: numbers(rt.alloc(), &[2, 1])?,
-            },
-            "up 0 transno 2 holds 2,1\n",
-        ),
-        (
-            Line::DamagedGates {
-                target: 0,
-                gates: 3,
-            },
-            "damaged 0 gates 3\n",
-        ),
-        (
-            Line::DamagedImage {
-                target: 0,
-                place: 33_546_224,
-            },
-            "damaged 0 image 33546224\n",
-        ),
-        (
-            Line::State {
-                target: 0,
-                standing: Standing::Opened,
-            },
-            "state 0 opened\n",
-        ),
-        (
-            Line::State {
-                target: 1,
-                standing: Standing::Serving,
-            },
-            "state 1 serving\n",
-        ),
-        (
-            Line::State {
-                target: 2,
-                standing: Standing::Down,
-            },
-            "state 2 down\n",
-        ),
-        (Line::TreeState(0), "tree state 0\n"),
-        (Line::EndUnclean(0), "end unclean target 0\n"),
     ];
     for (line, want) in rows {
         let mut out = Bytes::new(rt.alloc());
@@ -332,7 +362,7 @@ fn prints_the_worked_transcripts(rt: HostRuntime) -> Result<(), Fail> {
         print_accept(1, &reply, Targets::none().with(0), &mut first)?;
         print_reply(1, &reply, &mut first)?;
         tree.print(&mut first)?;
-        print_stable(0, &numbers(rt.alloc(), &[1])?, &mut first)?;
+        print_stable(0, &numbers_of(rt.alloc(), &[1])?, &mut first)?;
         Line::EndClean.print(&mut first)?;
     }
     assert_eq!(rt; first.bytes(), first_transcript().as_bytes());

@@ -1,0 +1,10 @@
+pub mod Judging
+pub mod Bytes
+pub mod Parts
+pub mod Streaming
+pub mod Whole
+pub mod Loop
+pub mod Search
+pub mod Little
+pub mod Reasons
+pub mod Again

@@ -1,0 +1,17 @@
+use Rattle.std.proofs.lemmas.Result.{err_from_is_err_and}
+use Rattle.byte_grammar.specs.Values.{many}
+use Rattle.byte_grammar.proofs.Loop.{goes_on, ends, is_done}
+use Rattle.out_update.specs.Values.{result_value}
+use Rattle.out_update.proofs.value.results_of.Goals as goal
+
+pub returns-in_err-item : goal.returns-in_err-item
+returns-in_err-item c =
+    let p = err_from_is_err_and c.from_residual.result c.from_residual.ensures.1 in
+    rw (p.1, p.2) (ends result_value c.in_err-item.field-0.0 c.loop.results c.args.count c.loop.counter c.loop.rest.now (many result_value c.args.count c.args.bytes.now) c.loop-test.true c.in_err-item.ensures c.loop.invariant)
+
+pub loop-preserved : goal.loop-preserved
+loop-preserved c =
+    rw c.in_ok-push.ensures.ok (goes_on result_value c.loop.results c.args.count c.loop.counter c.loop.rest.now c.in_ok-item.item c.in_ok-item.after.now (many result_value c.args.count c.args.bytes.now) c.loop-test.true c.in_ok-item.ensures c.loop.invariant)
+
+pub returns : goal.returns
+returns c = is_done result_value c.loop.results c.args.count c.loop.counter c.loop.rest.now (many result_value c.args.count c.args.bytes.now) c.loop-test.false c.loop.invariant

@@ -1,0 +1,12 @@
+pub mod Types
+pub mod Bodies
+pub mod Names
+pub mod Spelling
+pub mod Reading
+pub mod Replies
+pub mod Decoding
+pub mod Positions
+pub mod Values
+pub mod Begins
+pub mod Text
+pub mod Pieces

@@ -1,0 +1,16 @@
+pub mod Searching
+pub mod Loop
+pub mod Words
+pub mod Fields
+pub mod Pieces
+pub mod Marks
+pub mod Chunks
+pub mod Records
+pub mod Whole
+pub mod Keeping
+pub mod Seeing
+pub mod Asking
+pub mod Passing
+pub mod Listing
+pub mod Lines
+pub mod Prefix

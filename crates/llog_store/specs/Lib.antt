@@ -1,0 +1,9 @@
+pub mod Numbers
+pub mod Bitmap
+pub mod Log
+pub mod Reading
+pub mod Changes
+pub mod Views
+pub mod Places
+pub mod Kept
+pub mod DecodedText

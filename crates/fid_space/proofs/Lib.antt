@@ -5,3 +5,4 @@ pub mod HexLaws
 pub mod FidLaws
 pub mod Members
 pub mod PlaceLaws
+pub mod Stripes

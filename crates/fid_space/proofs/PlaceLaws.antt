@@ -5,7 +5,7 @@ use Rattle.fid_space.specs.declared.fid.Fid.{Fid}
 use Rattle.fid_space.specs.Places.{base_of, place_of, is_client, client_fid}
 use Rattle.fid_space.proofs.Splitting.{apart}
 
-some_of : (b : Bool) (g f : Fid) → ◌≡◌ {A = Option Fid} (cond b (Some g) None) (Some f) → (b ≡ true) × (g ≡ f)
+pub some_of : (b : Bool) (g f : Fid) → ◌≡◌ {A = Option Fid} (cond b (Some g) None) (Some f) → (b ≡ true) × (g ≡ f)
 some_of true g f e = (refl, cc)
 some_of false g f e = cc
 

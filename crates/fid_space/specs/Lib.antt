@@ -2,3 +2,5 @@ pub mod FidText
 pub mod Places
 pub mod FidReading
 pub mod Targets
+pub mod StripeLaws
+pub mod Homes

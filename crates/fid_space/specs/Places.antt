@@ -34,3 +34,19 @@ client_fid target client oid =
     if nat_lt target 16 && nat_lt client 0x8000 && nat_le 1 oid
     then Some (record { seq = base_of target + client; oid = oid; ver = 0 })
     else None
+
+-- The FID of a directory's stripe. Its sequence has the stripe's target, and in the offset the target and
+-- the client of the directory; its version has the stripe's index and the generation of the layout.
+abbrev pub stripe_of : Fid → ℕ → ℕ → ℕ → Fid
+stripe_of dir target index generation =
+    record { seq = base_of target + (0x80000 + ((dir.seq - base_of 0) / 0x100000 * 0x8000 + offset_of dir)); oid = dir.oid; ver = 1 + index + 16 * generation }
+
+abbrev pub stripe_fid : Fid → ℕ → ℕ → ℕ → Option Fid
+stripe_fid dir target index generation =
+    if is_client 16 dir && nat_lt target 16 && nat_lt index 16 && nat_le generation 0x0ffffffe
+    then Some (stripe_of dir target index generation)
+    else None
+
+-- a FID in the upper half of a target's range, which the FIDs of stripes are
+abbrev pub is_stripe : ℕ → Fid → Bool
+is_stripe targets f = in_range targets f && nat_le 0x80000 (offset_of f)

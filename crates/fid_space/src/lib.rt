@@ -6,18 +6,22 @@
 #![tactic(auto)]
 
 mod bytes;
+mod class;
 mod cluster;
 mod fid;
+mod laws;
 mod lists;
 mod places;
 mod reading;
 mod targets;
 
 pub use bytes::Bytes;
+pub use class::{Class, class_of, print_home};
 pub use cluster::Cluster;
 pub use fid::{Fid, FidFault, one_text_per_fid};
+pub use laws::stripe_fids_are_their_own;
 pub use lists::{Fids, Numbers};
-pub use places::{NoHome, client_fid, client_fids_have_their_place, is_client, locate};
+pub use places::{NoHome, client_fid, client_fids_have_their_place, is_client, locate, stripe_fid};
 pub use targets::Targets;
 
 #[cfg(test)]

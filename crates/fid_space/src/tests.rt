@@ -77,6 +77,27 @@ fn finds_places(rt: HostRuntime) {
 }
 
 #[test]
+fn finds_places_in_the_largest_cluster(rt: HostRuntime) {
+    let cluster = Cluster::new(16).expect(&rt, "16 targets");
+    let rows: [(u64, Result<u8, NoHome>); 6] = [
+        (0x2_0000_0400, Ok(0)),
+        (0x2_0010_03ff, Ok(0)),
+        (0x2_0010_0400, Ok(1)),
+        (0x2_00f0_0400, Ok(15)),
+        (0x2_0100_03ff, Ok(15)),
+        (0x2_0100_0400, Err(NoHome)),
+    ];
+    for (seq, want) in rows {
+        let fid = Fid {
+            seq,
+            oid: 1,
+            ver: 0,
+        };
+        assert_eq!(rt; locate(cluster, fid), want, "{seq}");
+    }
+}
+
+#[test]
 fn knows_client_fids(rt: HostRuntime) {
     let cluster = Cluster::new(2).expect(&rt, "two targets");
     let rows: [(u64, u32, u32, bool); 9] = [
@@ -127,6 +148,76 @@ fn makes_client_fids(rt: HostRuntime) {
     }
     client_fids_have_their_place();
     one_text_per_fid();
+}
+
+#[test]
+fn makes_stripe_fids(rt: HostRuntime) {
+    let first = (0x2_0000_0400, 1, 0);
+    let last = (0x2_00f0_83ff, u32::MAX, 0);
+    let rows: [((u64, u32, u32), (u8, u8, u32), Option<(u64, u32, u32)>); 12] = [
+        (first, (0, 0, 0), Some((0x2_0008_0400, 1, 1))),
+        (first, (1, 1, 0), Some((0x2_0018_0400, 1, 2))),
+        (first, (1, 1, 1), Some((0x2_0018_0400, 1, 0x12))),
+        (
+            last,
+            (15, 15, 0x0fff_fffe),
+            Some((0x2_0100_03ff, u32::MAX, 0xffff_fff0)),
+        ),
+        (last, (0, 0, 0), Some((0x2_0010_03ff, u32::MAX, 1))),
+        (first, (16, 0, 0), None),
+        (first, (0, 16, 0), None),
+        (first, (0, 0, 0x0fff_ffff), None),
+        ((0x2_0000_8400, 1, 0), (0, 0, 0), None),
+        ((0x2_0000_0400, 0, 0), (0, 0, 0), None),
+        ((0x2_0000_0400, 1, 1), (0, 0, 0), None),
+        ((0x2_0000_0007, 1, 0), (0, 0, 0), None),
+    ];
+    for ((seq, oid, ver), (target, index, generation), want) in rows {
+        let dir = Fid { seq, oid, ver };
+        let want = want.map(|(seq, oid, ver)| Fid { seq, oid, ver });
+        assert_eq!(rt;
+            stripe_fid(dir, target, index, generation),
+            want,
+            "{seq} {oid} {ver} {target} {index} {generation}"
+        );
+    }
+    stripe_fids_are_their_own();
+}
+
+#[test]
+fn tells_homes(rt: HostRuntime) -> Result<(), Fail> {
+    let two = Cluster::new(2).expect(&rt, "two targets");
+    let rows: [(u64, u32, u32, &str); 13] = [
+        (0x2_0000_0007, 1, 0, "target 0 root"),
+        (0x2_0000_0007, 2, 0, "target 0 other"),
+        (0x2_0000_0007, 1, 1, "target 0 other"),
+        (0x2_0000_83ff, 1, 0, "target 0 client"),
+        (0x2_0000_8400, 1, 0, "target 0 other"),
+        (0x2_0008_03ff, 1, 0, "target 0 other"),
+        (0x2_0008_0400, 1, 0, "target 0 stripe"),
+        (0x2_0010_03ff, 0, 0, "target 0 stripe"),
+        (0x2_0010_0400, 1, 0, "target 1 client"),
+        (0x2_0010_0400, 0, 0, "target 1 other"),
+        (0x2_0018_0400, 1, 2, "target 1 stripe"),
+        (0x2_0020_0400, 1, 0, ""),
+        (0x2_0000_0006, 1, 0, ""),
+    ];
+    for (seq, oid, ver, want) in rows {
+        let mut out = Bytes::new(rt.alloc());
+        let home = print_home(two, Fid { seq, oid, ver }, &mut out)?;
+        assert_eq!(rt; home, !want.is_empty(), "{seq} {oid} {ver}");
+        assert_eq!(rt; out.bytes(), want.as_bytes(), "{seq} {oid} {ver}");
+    }
+    let one = Cluster::new(1).expect(&rt, "one target");
+    let mut out = Bytes::new(rt.alloc());
+    let far = Fid {
+        seq: 0x2_0018_0400,
+        oid: 1,
+        ver: 2,
+    };
+    assert!(rt; !print_home(one, far, &mut out)?);
+    assert_eq!(rt; class_of(one, far), Class::Other);
+    Ok(())
 }
 
 #[test]

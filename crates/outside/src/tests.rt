@@ -1,5 +1,6 @@
 use crate::{
-    Sink, SinkFault, Source, SourceFault, StreamSink, StreamSource, TextSink, TextSource, put_all,
+    Sink, SinkFault, Source, SourceFault, Status, StreamSink, StreamSource, TakeFault, TextSink,
+    TextSource, put_all, take_all,
 };
 use std::io::{self, ErrorKind, Read, Write};
 use std::test::Fail;
@@ -104,5 +105,33 @@ fn streams_write(rt: HostRuntime) -> Result<(), Fail> {
     assert_eq!(rt; full.faults(), 1);
     assert_eq!(rt; full.write(b""), Ok(0));
     assert_eq!(rt; full.faults(), 1);
+    Ok(())
+}
+
+#[test]
+fn takes_all(rt: HostRuntime) -> Result<(), Fail> {
+    let mut source = TextSource::new(rt.alloc(), b"abcde", &[])?;
+    let bytes = take_all(rt.alloc(), &mut source, 5);
+    assert_eq!(rt; bytes.is_ok(), true);
+    if let Ok(bytes) = bytes {
+        assert_eq!(rt; bytes.as_slice(), b"abcde".as_slice());
+    }
+    let mut long = TextSource::new(rt.alloc(), b"abcde", &[])?;
+    assert_eq!(rt; take_all(rt.alloc(), &mut long, 4), Err(TakeFault::TooMuch));
+    let mut broken = TextSource::new(rt.alloc(), b"abcde", &[2])?;
+    assert_eq!(rt;
+        take_all(rt.alloc(), &mut broken, 5),
+        Err(TakeFault::Source)
+    );
+    Ok(())
+}
+
+#[test]
+fn ends(rt: HostRuntime) -> Result<(), Fail> {
+    assert_eq!(rt; Status::Done.code(), 0);
+    assert_eq!(rt; Status::Refused.code(), 2);
+    assert_eq!(rt; Status::Memory.code(), 3);
+    assert_eq!(rt; Status::Source.code(), 4);
+    assert_eq!(rt; Status::Sink.code(), 5);
     Ok(())
 }

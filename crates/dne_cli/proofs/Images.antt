@@ -1,5 +1,5 @@
 -- Images: their lengths, and what is read back of them.
-use Rattle.std.proofs.Common.{◌≡◌, ◌<◌, ◌≤◌, ◌+◌, ◌*◌, ◌^◌, ℕ, List, [], ◌∷◌, ◌++◌, Option, Some, Ok, length, take, drop, map, refl, sym, ◌∙◌, ap, arith, append_assoc, append-nil, length-append}
+use Rattle.std.proofs.Common.{◌≡◌, ◌<◌, ◌≤◌, ◌+◌, ◌*◌, ◌^◌, ℕ, true, List, [], ◌∷◌, ◌++◌, Option, Some, Ok, length, take, drop, map, refl, sym, ◌∙◌, ap, arith, append_assoc, append-nil, length-append}
 use Rattle.std.specs.List.{AllByRecursion}
 use Rattle.std.specs.Option.{option_map}
 use Rattle.std.proofs.lemmas.List.{take_at, drop_at}
@@ -7,7 +7,8 @@ use Rattle.byteorder.specs.Endian.{little_number}
 use Rattle.byteorder.specs.Numbers.{length-bytes_low_first, little_number-reads_back}
 use Rattle.fid_space.specs.declared.fid.Fid.{Fid}
 use Rattle.tree_model.specs.declared.op.Op.{Op}
-use Rattle.tree_model.specs.declared.op.Op.TheVariants.{Create}
+use Rattle.tree_model.specs.declared.op.Op.TheVariants as ops
+use Rattle.scenario_text.specs.Spelling.{is_create}
 use Rattle.tree_model.specs.History.{Item}
 use Rattle.dne_cli.specs.Image.{image_magic, word32, word64, fid_bytes, reply_code, op_bytes, item_bytes, items_bytes, head_bytes, image_of, number_at, item_len, with_number, after_item, numbers_from, numbers_in}
 use Rattle.dne_cli.proofs.Reading.{in_items, item_len_is}
@@ -29,19 +30,21 @@ length-head count = omega (arith, length-append (word32 image_magic) (word32 cou
 
 -- the name of what an operation makes
 abbrev pub name_of : Op → List ℕ
-name_of (Create parent name fid) = name
+name_of (ops.Create parent name fid) = name
+name_of _ = []
 
-pub length-op : (op : Op) → length (op_bytes op) ≡ 36 + length (name_of op)
-length-op (Create parent name fid) = omega (arith, length-append (word32 (length name)) (fid_bytes parent ++ (fid_bytes fid ++ name)), length-append (fid_bytes parent) (fid_bytes fid ++ name), length-append (fid_bytes fid) name, length-word32 (length name), length-fid parent, length-fid fid)
+pub length-op : (op : Op) → is_create op ≡ true → length (op_bytes op) ≡ 36 + length (name_of op)
+length-op (ops.Create parent name fid) is = omega (arith, length-append (word32 (length name)) (fid_bytes parent ++ (fid_bytes fid ++ name)), length-append (fid_bytes parent) (fid_bytes fid ++ name), length-append (fid_bytes fid) name, length-word32 (length name), length-fid parent, length-fid fid)
+length-op _ is = cc
 
-pub length-item : (i : Item) → length (item_bytes i) ≡ 48 + length (name_of i.request.op)
+pub length-item : (i : Item) → is_create i.request.op ≡ true → length (item_bytes i) ≡ 48 + length (name_of i.request.op)
 unfolding item_bytes
-length-item i =
+length-item i is =
     let number = word32 i.request.number in
     let client = word32 i.request.client in
     let code = word32 (reply_code i.reply) in
     let op = op_bytes i.request.op in
-    omega (arith, length-append number (client ++ (code ++ op)), length-append client (code ++ op), length-append code op, length-word32 i.request.number, length-word32 i.request.client, length-word32 (reply_code i.reply), length-op i.request.op)
+    omega (arith, length-append number (client ++ (code ++ op)), length-append client (code ++ op), length-append code op, length-word32 i.request.number, length-word32 i.request.client, length-word32 (reply_code i.reply), length-op i.request.op is)
 
 -- READ BACK
 
@@ -61,14 +64,15 @@ item_number i rest lt =
     let behind = word32 i.request.client ++ (word32 (reply_code i.reply) ++ op_bytes i.request.op) in
     ap (number_at 0) (append_assoc number behind rest) ∙ number_back i.request.number (behind ++ rest) lt
 
-name_number : (op : Op) (rest : List ℕ) → length (name_of op) < 2 ^ 32 → number_at 0 (op_bytes op ++ rest) ≡ length (name_of op)
-name_number (Create parent name fid) rest lt =
+name_number : (op : Op) (rest : List ℕ) → is_create op ≡ true → length (name_of op) < 2 ^ 32 → number_at 0 (op_bytes op ++ rest) ≡ length (name_of op)
+name_number (ops.Create parent name fid) rest is lt =
     ap (number_at 0) (append_assoc (word32 (length name)) (fid_bytes parent ++ (fid_bytes fid ++ name)) rest) ∙ number_back (length name) ((fid_bytes parent ++ (fid_bytes fid ++ name)) ++ rest) lt
+name_number _ rest is lt = cc
 
 -- the length of its name stands at byte 12
-item_name : (i : Item) (rest : List ℕ) → length (name_of i.request.op) < 2 ^ 32 → number_at 12 (item_bytes i ++ rest) ≡ length (name_of i.request.op)
+item_name : (i : Item) (rest : List ℕ) → is_create i.request.op ≡ true → length (name_of i.request.op) < 2 ^ 32 → number_at 12 (item_bytes i ++ rest) ≡ length (name_of i.request.op)
 unfolding item_bytes
-item_name i rest lt =
+item_name i rest is lt =
     let number = word32 i.request.number in
     let client = word32 i.request.client in
     let code = word32 (reply_code i.reply) in
@@ -79,18 +83,19 @@ item_name i rest lt =
     ap (λ (l : List ℕ). (number ++ l) ++ rest) (sym (append_assoc client code op))
     ∙ ap (λ (l : List ℕ). l ++ rest) (sym (append_assoc number (client ++ code) op))
     ∙ append_assoc front op rest in
-    ap (number_at 12) apart ∙ number_behind 12 front (op ++ rest) wide ∙ name_number i.request.op rest lt
+    ap (number_at 12) apart ∙ number_behind 12 front (op ++ rest) wide ∙ name_number i.request.op rest is lt
 
-pub item_whole : (i : Item) (rest : List ℕ) → length (name_of i.request.op) < 2 ^ 32 → item_len (item_bytes i ++ rest) ≡ Some (length (item_bytes i))
-item_whole i rest lt =
-    item_len_is (item_bytes i ++ rest) (length (name_of i.request.op)) (item_name i rest lt) (omega (arith, length-append (item_bytes i) rest, length-item i))
-    ∙ ap (λ (k : ℕ). Some k) (sym (length-item i))
+pub item_whole : (i : Item) (rest : List ℕ) → is_create i.request.op ≡ true → length (name_of i.request.op) < 2 ^ 32 → item_len (item_bytes i ++ rest) ≡ Some (length (item_bytes i))
+item_whole i rest is lt =
+    item_len_is (item_bytes i ++ rest) (length (name_of i.request.op)) (item_name i rest is lt) (omega (arith, length-append (item_bytes i) rest, length-item i is))
+    ∙ ap (λ (k : ℕ). Some k) (sym (length-item i is))
 
 -- what is kept of an operation can be read back
 pub record Fits (i : Item) : Type 0 where
   pub number : i.request.number < 2 ^ 32
   pub client : i.request.client < 256
   pub name : length (name_of i.request.op) < 256
+  pub create : is_create i.request.op ≡ true
 
 pub numbers_of : List Item → List ℕ
 numbers_of items = map (λ (i : Item). i.request.number) items
@@ -103,7 +108,7 @@ items_again end (i ∷ items) fits =
     let rest = items_bytes items in
     let name : length (name_of i.request.op) < 2 ^ 32 = omega (arith, here.name) in
     ap (λ (n : ℕ). after_item end n (option_map (λ (len : ℕ). numbers_from end (length items) (drop len (item_bytes i ++ rest))) (item_len (item_bytes i ++ rest)))) (item_number i rest here.number)
-    ∙ ap (λ (o : Option ℕ). after_item end i.request.number (option_map (λ (len : ℕ). numbers_from end (length items) (drop len (item_bytes i ++ rest))) o)) (item_whole i rest name)
+    ∙ ap (λ (o : Option ℕ). after_item end i.request.number (option_map (λ (len : ℕ). numbers_from end (length items) (drop len (item_bytes i ++ rest))) o)) (item_whole i rest here.create name)
     ∙ ap (λ (l : List ℕ). with_number i.request.number (numbers_from end (length items) l)) (drop_at (item_bytes i) rest (length (item_bytes i)) refl)
     ∙ ap (with_number i.request.number) (items_again end items fits.1)
 

@@ -13,10 +13,10 @@ use Rattle.tree_model.specs.History.{Item, tree_of}
 use Rattle.tree_model.specs.Participants.{home_of, participants}
 use Rattle.tree_model.specs.OpText.{IsOp}
 use Rattle.tree_model.specs.declared.op.Op.{Op}
-use Rattle.tree_model.specs.declared.op.Op.TheVariants.{Create}
+use Rattle.tree_model.specs.declared.op.Op.TheVariants as ops
 use Rattle.tree_model.specs.declared.op.Request.{Request}
 use Rattle.tree_model.proofs.Histories.{tree_from-push}
-use Rattle.scenario_text.specs.Spelling.{IsRequest}
+use Rattle.scenario_text.specs.Spelling.{IsRequest, is_create}
 use Rattle.scenario_text.specs.Machine.{State, Accepts, Among, Answers, IsAnswer, IsStale, SameSeat, SaysAll, HaveAnswers, serves, targets_of}
 use Rattle.scenario_text.specs.declared.line.Standing.TheVariants.{Serving}
 use Rattle.scenario_text.specs.declared.line.Line.{Line}
@@ -43,12 +43,13 @@ place_one f h = place_by (f.seq == 0x200000007) (in_range 1 f) ((f.seq - base_of
     below : in_range 1 f ≡ true → f.seq - base_of 0 < 0x100000
     below e = let low = ltb-true f.seq (base_of 1) (and_right (nat_le (base_of 0) f.seq) (nat_lt f.seq (base_of 1)) e) in omega (arith, low)
 
-op_home : (o : Op) → IsOp 1 o → home_of 1 o ≡ Some 0
-op_home (Create p x f) h = place_one p h.0.1
+op_home : (o : Op) → is_create o ≡ true → IsOp 1 o → home_of 1 o ≡ Some 0
+op_home (ops.Create p x f) is h = place_one p h.0.1
+op_home _ is h = cc
 
 -- the home of a request to a cluster of one target
 pub request_home : (n : ℕ) (r : Request) → n ≡ 1 → IsRequest (Some 1) r → home_of n r.op ≡ Some 0
-request_home n r is h = ap (λ m. home_of m r.op) is ∙ op_home r.op h.3
+request_home n r is h = ap (λ m. home_of m r.op) is ∙ op_home r.op h.4 h.3
 
 all_both : {X : Type 0} (P Q R : X → Type 0) (xs : List X) → ((x : X) → P x → Q x → R x) → AllByRecursion P xs → AllByRecursion Q xs → AllByRecursion R xs
 all_both P Q R [] f h k = tt

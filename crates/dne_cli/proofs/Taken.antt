@@ -7,9 +7,9 @@ use Rattle.outside.specs.Disk.{Shown}
 use Rattle.tree_model.specs.History.{Item, tree_of}
 use Rattle.tree_model.specs.OpText.{IsOp}
 use Rattle.tree_model.specs.declared.op.Op.{Op}
-use Rattle.tree_model.specs.declared.op.Op.TheVariants.{Create}
+use Rattle.tree_model.specs.declared.op.Op.TheVariants as ops
 use Rattle.tree_model.specs.declared.op.Request.{Request}
-use Rattle.scenario_text.specs.Spelling.{Entry, Skip, Order, IsRequest}
+use Rattle.scenario_text.specs.Spelling.{Entry, Skip, Order, IsRequest, is_create}
 use Rattle.scenario_text.specs.Machine.{Asked, State, Turn, SaysAll, Among, CommitLines, EndLines, TreeLines, IsAnswer, IsGroup, IsServed, IsTaken, asked_after, begun, is_formatted, is_settle, serves, targets_of}
 use Rattle.scenario_text.specs.declared.line.Line.{Line}
 use Rattle.scenario_text.specs.declared.line.Line.TheVariants as lines
@@ -108,10 +108,11 @@ all_take P (suc n) [] h = tt
 all_take P (suc n) (x ∷ xs) h = (h.0, all_take P n xs h.1)
 
 item_fits : (i : Item) → IsRequest (Some 1) i.request → Fits i
-item_fits i r = record { number = (let n = r.1 in omega (arith, n)); client = (let c = r.2 in omega (arith, c)); name = short i.request.op r.3 }
+item_fits i r = record { number = (let n = r.1 in omega (arith, n)); client = (let c = r.2 in omega (arith, c)); name = short i.request.op r.4 r.3; create = r.4 }
   where
-    short : (o : Op) → IsOp 1 o → length (name_of o) < 256
-    short (Create p x f) h = let n = h.1.1 in omega (arith, n)
+    short : (o : Op) → is_create o ≡ true → IsOp 1 o → length (name_of o) < 256
+    short (ops.Create p x f) is h = let n = h.1.1 in omega (arith, n)
+    short _ is h = cc
 
 -- the numbers of an image of any front of the history are read again
 pub reads_again : (a : Asked) (h : List Item) (said : List Line) (k : Kept) → AsksSame a h said k → length h < 2 ^ 32 → ReadsAgain h

@@ -6,7 +6,7 @@ use Rattle.std.specs.Option.{option_map}
 use Rattle.byteorder.specs.Endian.{little_bytes, little_number}
 use Rattle.fid_space.specs.declared.fid.Fid.{Fid}
 use Rattle.tree_model.specs.declared.op.Op.{Op}
-use Rattle.tree_model.specs.declared.op.Op.TheVariants.{Create}
+use Rattle.tree_model.specs.declared.op.Op.TheVariants as ops
 use Rattle.tree_model.specs.declared.reply.Reply.{Reply}
 use Rattle.tree_model.specs.declared.reply.Reply.TheVariants as replies
 use Rattle.tree_model.specs.declared.errno.Errno.{Errno}
@@ -50,9 +50,10 @@ reply_code (replies.Attr dir mode uid gid links) = 0
 reply_code (replies.Value bytes) = 0
 reply_code (replies.Err e) = errno_code e
 
--- the name's length, the parent, the file and the name
+-- the name's length, the parent, the file and the name; no other operation is accepted yet
 abbrev pub op_bytes : Op → List ℕ
-op_bytes (Create parent name fid) = word32 (length name) ++ (fid_bytes parent ++ (fid_bytes fid ++ name))
+op_bytes (ops.Create parent name fid) = word32 (length name) ++ (fid_bytes parent ++ (fid_bytes fid ++ name))
+op_bytes _ = []
 
 -- an operation: its number, its client, the code of its reply, and what it asked for
 unfoldable pub item_bytes : Item → List ℕ

@@ -4,17 +4,17 @@ use Rattle.std.specs.List.{filter}
 use Rattle.std.specs.FinMap.{FinMap, entries, from_entries}
 use Rattle.fid_space.specs.declared.fid.Fid.{Fid}
 use Rattle.fid_space.specs.Places.{place_of}
-use Rattle.tree_model.specs.declared.plain_tree.Node.{Node}
-use Rattle.tree_model.specs.Tree.{fid_cmp, entry_cmp}
+use Rattle.tree_model.specs.declared.node.Node.{Node}
+use Rattle.tree_model.specs.Tree.{Names, fid_cmp}
 use Rattle.tree_model.specs.History.{Item, tree_of}
 use Rattle.tree_model.specs.Participants.{home_of}
 use Rattle.dne_cli.specs.Image.{Holds}
 
--- the nodes and the entries of a target, and the seats of the clients 0 to 63: what was accepted there
--- with the greatest number
+-- the nodes of a target, the names of the directories there, and the seats of the clients 0 to 63: what was
+-- accepted there with the greatest number
 pub record Share : Type 0 where
   pub nodes : FinMap fid_cmp Node
-  pub entries : FinMap entry_cmp Fid
+  pub entries : FinMap fid_cmp Names
   pub seats : List (Option Item)
 
 abbrev pub is_at : ℕ → Option ℕ → Bool
@@ -39,7 +39,7 @@ seats_below targets target history (suc client) = seats_below targets target his
 unfoldable pub share : ℕ → List Item → ℕ → Share
 share targets history target = record {
   nodes = from_entries (filter (λ e. is_at target (place_of targets e.0)) (entries (tree_of targets history).nodes));
-  entries = from_entries (filter (λ e. is_at target (place_of targets e.0.directory)) (entries (tree_of targets history).entries));
+  entries = from_entries (filter (λ e. is_at target (place_of targets e.0)) (entries (tree_of targets history).entries));
   seats = seats_below targets target history 64;
 }
 

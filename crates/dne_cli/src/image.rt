@@ -93,7 +93,7 @@ fn item_of(alloc: Global, request: &Request, reply: &Reply) -> Result<Bytes, Mem
     Ok(out)
 }
 
-/// Adds what an operation asks for.
+/// Adds what a create asks for. No other operation is accepted yet.
 fn put_op(op: &Op, out: &mut Bytes) -> Result<(), Memory>
     ensures bytes { OnOk result (out.new ≡ out.old ++ op_bytes op.now) }
     ensures short { OnOk result (length out.new ≤ length out.old + 291) }
@@ -106,6 +106,7 @@ fn put_op(op: &Op, out: &mut Bytes) -> Result<(), Memory>
             out.append(name.bytes())?;
             Ok(())
         }
+        _ => Ok(()),
     }
 }
 

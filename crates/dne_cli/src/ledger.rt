@@ -148,14 +148,12 @@ fn seats(alloc: Global, len: usize) -> Result<Vec<u32>, Memory>
 fn participants(cluster: Cluster, op: &Op, reply: &Reply) -> Targets
     ensures { result ≡ participants cluster op.now reply.now }
 {
-    match op {
-        Op::Create { parent, fid, .. } => {
-            let home = with_place(Targets::none(), cluster, *parent);
-            match reply {
-                Reply::Ok => with_place(with_place(home, cluster, *fid), cluster, *parent),
-                _ => home,
-            }
+    let home = with_place(Targets::none(), cluster, op.first_fid());
+    match (op, reply) {
+        (Op::Create { parent, fid, .. }, Reply::Ok) => {
+            with_place(with_place(home, cluster, *fid), cluster, *parent)
         }
+        _ => home,
     }
 }
 

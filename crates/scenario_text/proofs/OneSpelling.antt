@@ -1,20 +1,21 @@
 -- No two commands have one spelling.
-use Rattle.std.proofs.Common.{◌≡◌, ◌==◌, ◌<◌, ◌≤◌, ◌^◌, ◌+◌, ◌*◌, ℕ, Option, Some, None, List, [], ◌∷◌, length, codes, refl, sym, ap, ◌∙◌, arith}
+use Rattle.std.proofs.Common.{◌≡◌, ◌==◌, ◌<◌, ◌≤◌, ◌^◌, ◌+◌, ◌*◌, ℕ, true, Option, Some, None, List, [], ◌∷◌, length, codes, refl, sym, ap, ◌∙◌, arith}
 use Rattle.std.specs.List.{slice_split, AllByRecursion}
 use Rattle.std.specs.Fmt.{decimal}
 use Rattle.std.proofs.lemmas.Fmt.{decimal_is_IsNumeral, decimal_injective}
 use Rattle.fid_space.proofs.Splitting.{Lacks, lacks_by_test, lacks_digits, split_join}
 use Rattle.tree_model.specs.OpText.{op_words, IsOp}
 use Rattle.tree_model.specs.declared.op.Request.{Request}
-use Rattle.tree_model.proofs.OpTexts.{op_lacks, op_injective}
-use Rattle.scenario_text.specs.Spelling.{IsCommand, IsRequest, IsTarget, spelling, words_of}
+use Rattle.tree_model.proofs.OpTexts.{op_lacks}
+use Rattle.tree_model.proofs.OneOp.{op_injective}
+use Rattle.scenario_text.specs.Spelling.{IsCommand, IsRequest, IsTarget, is_create, spelling, words_of}
 use Rattle.scenario_text.specs.declared.command.Command.{Command}
 use Rattle.scenario_text.specs.declared.command.Command.TheVariants as commands
 
 -- the request's limits, in whichever cluster it is read
-pub limits : (cluster : Option ℕ) (r : Request) → IsRequest cluster r → (n : ℕ) × (1 ≤ r.number) × (r.number ≤ 65536) × (r.client < 64) × IsOp n r.op
+pub limits : (cluster : Option ℕ) (r : Request) → IsRequest cluster r → (n : ℕ) × (1 ≤ r.number) × (r.number ≤ 65536) × (r.client < 64) × IsOp n r.op × (is_create r.op ≡ true)
 limits None r h = absurd h
-limits (Some n) r h = (n, h.0, h.1, h.2, h.3)
+limits (Some n) r h = (n, h.0, h.1, h.2, h.3, h.4)
 
 digits_lack : (n : ℕ) → n < 2 ^ 64 → Lacks 32 (decimal n)
 digits_lack n low = lacks_digits 10 32 (omega arith) (decimal n) (decimal_is_IsNumeral n low).0.1

@@ -1,26 +1,28 @@
 -- Two scenarios through the definitions, down to the bytes.
-use Rattle.std.proofs.Common.{◌≡◌, cond, true, false, Some, None, List, [], ◌∷◌, ◌++◌, length, codes, inl, inr, Bool, ◌||◌, ◌+◌, IsSome, refl, sym, ap, ◌∙◌, subst, arith}
+use Rattle.std.proofs.Common.{◌≡◌, ◌==◌, ℕ, if◌then◌else◌, cond, true, false, Some, None, List, [], ◌∷◌, ◌++◌, length, codes, inl, inr, Bool, ◌||◌, ◌+◌, IsSome, refl, sym, ap, ◌∙◌, subst, arith}
 use Rattle.std.specs.declared.cmp.Ordering.{Ordering}
 use Rattle.std.specs.Ordering.{eq_by_cmp}
 use Rattle.std.specs.List.{flat_map}
 use Rattle.std.specs.Fmt.{digits}
-use Rattle.std.specs.FinMap.{entries, empty, get, len, put, get-empty, get-insert, entries-insert, len-entries, len-empty}
+use Rattle.std.specs.Option.{unwrap_or}
+use Rattle.std.specs.FinMap.{entries, empty, get, len, insert, remove, put, get-empty, get-insert, entries-insert, len-entries, len-empty}
 use Rattle.fid_space.specs.declared.fid.Fid.{Fid}
-use Rattle.tree_model.specs.declared.plain_tree.Node.{Node}
-use Rattle.tree_model.specs.declared.plain_tree.EntryKey.{EntryKey}
+use Rattle.tree_model.specs.declared.node.Node.{Node}
 use Rattle.tree_model.specs.declared.op.Op.{Op}
 use Rattle.tree_model.specs.declared.op.Op.TheVariants.{Create}
 use Rattle.tree_model.specs.declared.op.Request.{Request}
 use Rattle.tree_model.specs.declared.reply.Reply.{Reply}
 use Rattle.tree_model.specs.declared.reply.Reply.TheVariants as replies
-use Rattle.tree_model.specs.Tree.{Tree, base, fid_cmp, entry_cmp, entry_key, root_fid, root_node, file_node}
-use Rattle.tree_model.specs.Step.{step, first_fault, client_fault, parent_fault, taken_fault, create_fault, checked, added}
+use Rattle.tree_model.specs.Fids.{fid_cmp, name_cmp}
+use Rattle.tree_model.specs.Tree.{Tree, Names, base, names_of, named, root_fid, root_node, file_node}
+use Rattle.tree_model.specs.Changes.{changed_all, with_names}
+use Rattle.tree_model.specs.Step.{step, first_fault, client_fault, layout_fault, parent_fault, taken_fault, create_fault, checked, op_changes}
 use Rattle.tree_model.specs.History.{Item, tree_of}
 use Rattle.tree_model.specs.Participants.{participants}
 use Rattle.tree_model.specs.OpText.{IsPlaced}
 use Rattle.tree_model.specs.Names.{IsName}
-use Rattle.tree_model.specs.TreeText.{tree_text, tree_head, node_text, entry_text}
-use Rattle.tree_model.proofs.Maps.{fids_total, entries_total}
+use Rattle.tree_model.specs.TreeText.{tree_text, tree_head, entry_count, node_text, entry_text, names_text, xattr_text, xattrs_text}
+use Rattle.tree_model.proofs.Maps.{fids_total, names_total}
 use Rattle.scenario_text.specs.declared.command.Command.TheVariants as commands
 use Rattle.scenario_text.specs.declared.line.Line.TheVariants as lines
 use Rattle.scenario_text.specs.LineText.{members}
@@ -37,51 +39,79 @@ entries_empty : {K X : Type 0} (R : K → K → Ordering) → entries (empty {X 
 entries_empty {X = X} R = none_of_length _ (sym (len-entries (empty {X = X} {R = R})) ∙ len-empty R X)
 
 -- the text of a tree with these entries
-text_of : (t : Tree) (nodes : List (Fid × Node)) (names : List (EntryKey × Fid)) → entries t.nodes ≡ nodes → entries t.entries ≡ names
-    → tree_text t ≡ tree_head (length nodes) (length names) ++ (flat_map node_text nodes ++ flat_map entry_text names)
+text_of : (t : Tree) (nodes : List (Fid × Node)) (names : List (Fid × Names)) → entries t.nodes ≡ nodes → entries t.entries ≡ names
+    → tree_text t ≡ tree_head (length nodes) (entry_count names) ++ (flat_map node_text nodes ++ (flat_map names_text names ++ flat_map xattrs_text nodes))
 unfolding tree_text
 text_of t nodes names e f =
     let m : len t.nodes ≡ length nodes = len-entries t.nodes ∙ ap length e in
-    let n : len t.entries ≡ length names = len-entries t.entries ∙ ap length f in
-    λ i. tree_head (m i) (n i) ++ (flat_map node_text (e i) ++ flat_map entry_text (f i))
+    λ i. tree_head (m i) (entry_count (f i)) ++ (flat_map node_text (e i) ++ (flat_map names_text (f i) ++ flat_map xattrs_text (e i)))
 
 base_nodes : entries base.nodes ≡ (root_fid, root_node) ∷ []
 base_nodes = entries-insert fids_total empty root_fid root_node ∙ ap (put fid_cmp root_fid root_node) (entries_empty fid_cmp)
 
+-- no node has an extended attribute
+none_of : (f : Fid) → flat_map (xattr_text f) (entries (empty {X = List ℕ} {R = name_cmp})) ≡ []
+none_of f = ap (flat_map (xattr_text f)) (entries_empty name_cmp)
+
 base_text : tree_text base ≡ codes "tree 1 0\nnode [0x200000007:0x1:0x0] dir 0755 0 0 2\n"
 unfolding digits
-base_text = text_of base ((root_fid, root_node) ∷ []) [] base_nodes (entries_empty entry_cmp)
+base_text =
+    text_of base ((root_fid, root_node) ∷ []) [] base_nodes (entries_empty fid_cmp)
+    ∙ ap (λ l. tree_head 1 0 ++ (flat_map node_text ((root_fid, root_node) ∷ []) ++ (l ++ []))) (none_of root_fid)
 
 abbrev file_fid : Fid
 file_fid = record { seq = 0x200000400; oid = 1; ver = 0 }
 
-abbrev name : EntryKey
-name = entry_key root_fid (codes "a")
+abbrev name : List ℕ
+name = codes "a"
 
 abbrev create : Op
-create = Create root_fid (codes "a") file_fid
+create = Create root_fid name file_fid
 
 abbrev grown : Tree
-grown = added base name file_fid file_node
+grown = changed_all base (op_changes base create)
 
 node_at : (q : Fid) → get base.nodes q ≡ cond (eq_by_cmp fid_cmp q root_fid) (Some root_node) None
 node_at q = get-insert fids_total empty root_fid root_node q ∙ ap (cond (eq_by_cmp fid_cmp q root_fid) (Some root_node)) (get-empty fid_cmp q)
 
-no_fault : create_fault 1 base root_fid (codes "a") file_fid ≡ None
+no_names : names_of base root_fid ≡ empty
+no_names = ap (λ o. unwrap_or o empty) (get-empty {X = Names} fid_cmp root_fid)
+
+no_fault : create_fault 1 base root_fid name file_fid None ≡ None
 no_fault =
     let parent = node_at root_fid in
     let file = node_at file_fid in
-    let entry = get-empty {X = Fid} entry_cmp name in
-    λ i. first_fault (client_fault 1 file_fid) (first_fault (parent_fault (parent i)) (first_fault (taken_fault (entry i)) (taken_fault (file i))))
+    let entry : named base root_fid name ≡ None = ap (λ (m : Names). get m name) no_names ∙ get-empty {X = Fid} name_cmp name in
+    λ i. first_fault (client_fault 1 file_fid) (first_fault (layout_fault 1 None) (first_fault (parent_fault (parent i)) (first_fault (taken_fault (entry i)) (taken_fault (file i)))))
 
 file_step : step 1 base create ≡ (grown, replies.Ok)
-file_step = ap (λ fault. checked fault base grown) no_fault
+file_step = ap (λ fault. checked fault base (grown, replies.Ok)) no_fault
+
+-- the names of the root afterwards
+abbrev one : Names
+one = insert empty name file_fid
+
+one_entry : entries one ≡ (name, file_fid) ∷ []
+one_entry = entries-insert names_total empty name file_fid ∙ ap (put name_cmp name file_fid) (entries_empty name_cmp)
+
+one_len : len one ≡ 1
+one_len = len-entries one ∙ ap length one_entry
+
+grown_entries : entries grown.entries ≡ (root_fid, one) ∷ []
+grown_entries =
+    ap (λ (m : Names). entries (with_names base root_fid (insert m name file_fid))) no_names
+    ∙ ap (λ n. entries (if n == 0 then remove base.entries root_fid else insert base.entries root_fid one)) one_len
+    ∙ entries-insert fids_total base.entries root_fid one ∙ ap (put fid_cmp root_fid one) (entries_empty fid_cmp)
+
+grown_nodes : entries grown.nodes ≡ (root_fid, root_node) ∷ (file_fid, file_node) ∷ []
+grown_nodes = entries-insert fids_total base.nodes file_fid file_node ∙ ap (put fid_cmp file_fid file_node) base_nodes
 
 grown_text : tree_text grown ≡ codes "tree 2 1\nnode [0x200000007:0x1:0x0] dir 0755 0 0 2\nnode [0x200000400:0x1:0x0] file 0644 0 0 1\nentry [0x200000007:0x1:0x0] a [0x200000400:0x1:0x0]\n"
 unfolding digits
-grown_text = text_of grown ((root_fid, root_node) ∷ (file_fid, file_node) ∷ []) ((name, file_fid) ∷ [])
-    (entries-insert fids_total base.nodes file_fid file_node ∙ ap (put fid_cmp file_fid file_node) base_nodes)
-    (entries-insert entries_total base.entries name file_fid ∙ ap (put entry_cmp name file_fid) (entries_empty entry_cmp))
+grown_text =
+    let nodes = flat_map node_text ((root_fid, root_node) ∷ (file_fid, file_node) ∷ []) in
+    text_of grown ((root_fid, root_node) ∷ (file_fid, file_node) ∷ []) ((root_fid, one) ∷ []) grown_nodes grown_entries
+    ∙ (λ i. tree_head 2 (one_len i + 0) ++ (nodes ++ ((flat_map (entry_text root_fid) (one_entry i) ++ []) ++ (none_of root_fid i ++ (none_of file_fid i ++ [])))))
 
 abbrev request : Request
 request = record { number = 1; client = 0; op = create }
@@ -140,7 +170,7 @@ cluster_turn : Turn (start true) cluster_group made
 cluster_turn = ((refl, refl), inl refl, refl)
 
 send_turn : Turn made send_group sent
-send_turn = (((omega arith, omega arith, omega arith, (root_placed, name_fits, file_placed)), ((refl, refl), refl)), refl, refl)
+send_turn = (((omega arith, omega arith, omega arith, (root_placed, name_fits, file_placed), refl), ((refl, refl), refl)), refl, refl)
 
 settle_turn : Turn sent settle_group settled
 settle_turn = (

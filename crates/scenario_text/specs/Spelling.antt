@@ -1,8 +1,10 @@
 -- The one spelling of each command: its words, parted by one space. And the lines that are skipped.
-use Rattle.std.specs.Prelude.{◌≡◌, ◌≢◌, ◌<◌, ◌≤◌, ◌⊎◌, ℕ, List, [], ◌∷◌, codes, Option, Some, None}
+use Rattle.std.specs.Prelude.{◌≡◌, ◌≢◌, ◌<◌, ◌≤◌, ◌⊎◌, ℕ, Bool, true, false, List, [], ◌∷◌, codes, Option, Some, None}
 use Rattle.std.specs.List.{join_with_byte, AllByRecursion}
 use Rattle.std.specs.Fmt.{decimal}
 use Rattle.tree_model.specs.OpText.{op_words, IsOp}
+use Rattle.tree_model.specs.declared.op.Op.{Op}
+use Rattle.tree_model.specs.declared.op.Op.TheVariants as ops
 use Rattle.tree_model.specs.declared.op.Request.{Request}
 use Rattle.scenario_text.specs.declared.command.Command.{Command}
 use Rattle.scenario_text.specs.declared.command.Command.TheVariants as commands
@@ -21,10 +23,15 @@ words_of (commands.Fuse target after choice) = codes "fuse" ∷ decimal target �
 abbrev pub spelling : Command → List ℕ
 spelling c = join_with_byte 32 (words_of c)
 
+-- the operation that is played so far
+abbrev pub is_create : Op → Bool
+is_create (ops.Create parent name fid) = true
+is_create _ = false
+
 -- a request that can be sent to a cluster
 abbrev pub IsRequest : Option ℕ → Request → Type 0
 IsRequest None r = ⊥
-IsRequest (Some targets) r = (1 ≤ r.number) × (r.number ≤ 65536) × (r.client < 64) × IsOp targets r.op
+IsRequest (Some targets) r = (1 ≤ r.number) × (r.number ≤ 65536) × (r.client < 64) × IsOp targets r.op × (is_create r.op ≡ true)
 
 -- a target of the cluster
 abbrev pub IsTarget : Option ℕ → ℕ → Type 0

@@ -1,6 +1,8 @@
-ghost use Rattle.std.specs.Prelude.{◌≡◌, ◌≢◌, ◌≤◌, ◌∷◌, [], ℕ, codes, map, IfOk};
+ghost use Rattle.std.specs.Prelude.{◌≡◌, ◌≢◌, ◌≤◌, ◌∷◌, [], ℕ, true, codes, map, IfOk};
 ghost use Rattle.std.specs.Fmt.{decimal};
-ghost use Rattle.scenario_text.specs.Spelling.{IsCommand, IsTarget, spelling, words_of};
+ghost use Rattle.scenario_text.specs.Spelling.{IsCommand, IsTarget, spelling, words_of, is_create};
+ghost use Rattle.tree_model.specs.OpText.{IsOp, op_words};
+ghost use Rattle.tree_model.specs.declared.op.Op.{Op};
 
 use fid_space::Cluster;
 use std::alloc::Global;
@@ -210,14 +212,36 @@ fn of_send(
     };
     let number = number_in(alloc, number_word, 1, 65_536)?;
     let client = number_in(alloc, client_word, 0, 63)?;
-    match Op::from_words(alloc, op_words, cluster) {
-        Ok(op) => Ok(Command::Send(Request {
-            number,
-            client: client as u8,
-            op,
-        })),
-        Err(OpFault::NotYet) => Err(TextFault::NotYet),
-        Err(OpFault::Memory) => Err(TextFault::Memory),
+    let op = created(alloc, op_words, cluster)?;
+    Ok(Command::Send(Request {
+        number,
+        client: client as u8,
+        op,
+    }))
+}
+
+/// Reads a create, which is the only operation that is played so far.
+fn created(alloc: Global, words: &[&[u8]], cluster: Cluster) -> Result<Op, TextFault>
+    ensures ok { IfOk result (λ op. IsOp cluster op × (is_create op ≡ true) × (map (λ w. w.now) words.now ≡ op_words op)) }
+    ensures refused { result ≡ Err TextFault.NotYet → (op : Op) → IsOp cluster op → is_create op ≡ true → map (λ w. w.now) words.now ≢ op_words op }
+{
+    let op = match Op::from_words(alloc, words, cluster) {
+        Ok(op) => op,
+        Err(OpFault::Memory) => return Err(TextFault::Memory),
+        Err(_) => return Err(TextFault::NotYet),
+    };
+    if !is_create(&op) {
+        return Err(TextFault::NotYet);
+    }
+    Ok(op)
+}
+
+fn is_create(op: &Op) -> bool
+    ensures { result ≡ is_create op.now }
+{
+    match op {
+        Op::Create { .. } => true,
+        _ => false,
     }
 }
 

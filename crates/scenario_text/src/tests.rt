@@ -164,12 +164,13 @@ fn reads_the_parts_of_a_request(rt: HostRuntime) {
         Ok(Command::Send(request)) => {
             assert_eq!(rt; request.number, 65_536);
             assert_eq!(rt; request.client, 63);
-            match request.op {
+            match &request.op {
                 Op::Create { parent, name, fid } => {
-                    assert_eq!(rt; parent, Fid::ROOT);
+                    assert_eq!(rt; *parent, Fid::ROOT);
                     assert_eq!(rt; name.bytes(), b"a-B".as_slice());
-                    assert_eq!(rt; fid, file);
+                    assert_eq!(rt; *fid, file);
                 }
+                _ => assert!(rt; false, "no create"),
             }
         }
         _ => assert!(rt; false, "no request"),

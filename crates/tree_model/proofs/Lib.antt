@@ -1,5 +1,15 @@
 pub mod Maps
 pub mod Texts
 pub mod Spellings
+pub mod Fids
+pub mod Walks
+pub mod Changes
+pub mod BadWords
 pub mod OpTexts
 pub mod Histories
+pub mod OneOp
+pub mod Deciding
+pub mod Writing
+pub mod Agreement
+pub mod Looking
+pub mod Placing

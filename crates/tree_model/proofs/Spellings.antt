@@ -1,14 +1,25 @@
 -- A word spells at most one list of bytes.
-use Rattle.std.proofs.Common.{◌≡◌, ◌≢◌, ◌<◌, ◌≤◌, ◌⊎◌, ◌/◌, ◌%◌, ℕ, Bool, true, false, cond, List, [], ◌∷◌, ◌++◌, inl, inr, refl, sym, ap, ◌∙◌, subst, arith, append_assoc, append-nil}
+use Rattle.std.proofs.Common.{◌≡◌, ◌≢◌, ◌<◌, ◌≤◌, ◌⊎◌, ◌==◌, ◌&&◌, ◌/◌, ◌%◌, ℕ, Bool, true, false, cond, Option, Some, IfSome, List, [], ◌∷◌, ◌++◌, inl, inr, refl, sym, ap, ◌∙◌, subst, arith, append_assoc, append-nil}
+use Rattle.std.specs.List.{flat_map}
 use Rattle.std.specs.Fmt.{digit_glyph}
-use Rattle.std.proofs.lemmas.Bool.{false≢true}
+use Rattle.std.specs.Cmp.Lexicographic.{pointwise}
+use Rattle.std.proofs.lemmas.Bool.{false≢true, eq-eqb}
 use Rattle.std.proofs.lemmas.Bool.Decides.{nat_tests}
 use Rattle.fid_space.proofs.Splitting.{Lacks, lacks_append}
 use Rattle.tree_model.specs.Names.{AreBytes, is_plain, hex_byte, name_byte, name_word}
+use Rattle.tree_model.specs.ReplyText.{hex_text}
+
+-- what holds of an option's value
+pub at_some : {A : Type 0} (P : A → Type 0) (r : Option A) (v : A) → r ≡ Some v → IfSome r P → P v
+at_some P r v e h = subst (λ o. IfSome o P) e h
 
 pub by_bool : (t : Bool) → (t ≡ true) ⊎ (t ≡ false)
 by_bool true = inl refl
 by_bool false = inr refl
+
+pub all_same : (xs : List ℕ) → pointwise ◌==◌ xs xs ≡ true
+all_same [] = refl
+all_same (x ∷ xs) = ap (λ t. t && pointwise ◌==◌ xs xs) (eq-eqb x x refl) ∙ all_same xs
 
 one_glyph : (a b : ℕ) → a < 16 → b < 16 → digit_glyph false a ≡ digit_glyph false b → a ≡ b
 one_glyph a b p q e = grind (arith, nat_tests)
@@ -90,6 +101,50 @@ no_name xs r p some none ys q e = let more = word_more xs ys r p q e in stuck r 
     stuck : (r zs : List ℕ) → r ≢ [] → ((b : ℕ) (rest : List ℕ) → b < 256 → r ≢ name_byte b ++ rest) → AreBytes zs → r ≡ name_word zs → ⊥
     stuck r [] some none h e = some e
     stuck r (z ∷ zs) some none h e = none z (name_word zs) h.0 e
+
+-- the same of pairs of digits
+pub value_more : (xs ys r : List ℕ) → AreBytes xs → AreBytes ys → flat_map hex_byte xs ++ r ≡ flat_map hex_byte ys
+    → (zs : List ℕ) × (ys ≡ xs ++ zs) × AreBytes zs × (r ≡ flat_map hex_byte zs)
+value_more [] ys r p q e = (ys, refl, q, e)
+value_more (x ∷ xs) [] r p q e = cc
+value_more (x ∷ xs) (y ∷ ys) r p q e =
+    let first = one_hex_byte x y p.0 q.0 (flat_map hex_byte xs ++ r) (flat_map hex_byte ys) (sym (append_assoc (hex_byte x) (flat_map hex_byte xs) r) ∙ e) in
+    let rest = value_more xs ys r p.1 q.1 first.1 in
+    let same : y ∷ ys ≡ (x ∷ xs) ++ rest.0 = λ i. (sym first.0) i ∷ rest.1 i in
+    (rest.0, same, rest.2, rest.3)
+
+no_digits : (zs : List ℕ) → [] ≡ flat_map hex_byte zs → zs ≡ []
+no_digits [] e = refl
+no_digits (z ∷ zs) e = cc
+
+pub one_value : (xs ys : List ℕ) → AreBytes xs → AreBytes ys → flat_map hex_byte xs ≡ flat_map hex_byte ys → xs ≡ ys
+one_value xs ys p q e =
+    let more = value_more xs ys [] p q (append-nil (flat_map hex_byte xs) ∙ e) in
+    sym (more.1 ∙ ap (λ l. xs ++ l) (no_digits more.0 more.3) ∙ append-nil xs)
+
+pub no_value : (xs r : List ℕ) → AreBytes xs → r ≢ [] → ((b : ℕ) (rest : List ℕ) → b < 256 → r ≢ hex_byte b ++ rest) → (ys : List ℕ) → AreBytes ys → flat_map hex_byte xs ++ r ≢ flat_map hex_byte ys
+no_value xs r p some none ys q e = let more = value_more xs ys r p q e in stuck r more.0 some none more.2 more.3
+  where
+    stuck : (r zs : List ℕ) → r ≢ [] → ((b : ℕ) (rest : List ℕ) → b < 256 → r ≢ hex_byte b ++ rest) → AreBytes zs → r ≡ flat_map hex_byte zs → ⊥
+    stuck r [] some none h e = some e
+    stuck r (z ∷ zs) some none h e = none z (flat_map hex_byte zs) h.0 e
+
+pub one_hex : (xs ys : List ℕ) → AreBytes xs → AreBytes ys → hex_text xs ≡ hex_text ys → xs ≡ ys
+one_hex [] [] p q e = refl
+one_hex [] (y ∷ ys) p q e = cc
+one_hex (x ∷ xs) [] p q e = cc
+one_hex (x ∷ xs) (y ∷ ys) p q e = one_value (x ∷ xs) (y ∷ ys) p q e
+
+digits_lack : (b : ℕ) (xs : List ℕ) → b < 33 → Lacks b (flat_map hex_byte xs)
+digits_lack b [] low = tt
+digits_lack b (x ∷ xs) low =
+    let h = glyph_high (x / 16) in
+    let l = glyph_high (x % 16) in
+    ((λ e. absurd (omega (arith, low, e, h))), ((λ e. absurd (omega (arith, low, e, l))), digits_lack b xs low))
+
+pub hex_lacks : (b : ℕ) (xs : List ℕ) → b < 33 → Lacks b (hex_text xs)
+hex_lacks b [] low = ((λ (e : 45 ≡ b). absurd (omega (arith, low, e))), tt)
+hex_lacks b (x ∷ xs) low = digits_lack b (x ∷ xs) low
 
 -- a spelling has no blank and no control byte
 byte_lacks : (b c : ℕ) → b < 33 → Lacks b (name_byte c)

@@ -10,10 +10,9 @@ use Rattle.std.specs.FinMap.{is_sorted, entries, len, from_entries, from_sorted,
 use Rattle.std.specs.FinMap.Entries.{below_all}
 use Rattle.std.proofs.lemmas.Map.Lookups.{CmpEqualImpliesEq}
 use Rattle.fid_space.specs.declared.fid.Fid.{Fid}
-use Rattle.tree_model.specs.declared.plain_tree.Node.{Node}
-use Rattle.tree_model.specs.declared.plain_tree.EntryKey.{EntryKey}
-use Rattle.tree_model.specs.Tree.{Tree}
-use Rattle.tree_model.specs.TreeText.{tree_head, tree_text, node_text, entry_text}
+use Rattle.tree_model.specs.declared.node.Node.{Node}
+use Rattle.tree_model.specs.Tree.{Tree, Names}
+use Rattle.tree_model.specs.TreeText.{tree_head, tree_text, entry_count, node_text, names_text, xattrs_text}
 
 both : (a b : Bool) → T a → T b → T (a && b)
 both true b x y = y
@@ -35,15 +34,18 @@ module _ {K X : Type 0} (R : K → K → Ordering) where
       let s = sorted es h in
       ap entries (same_map total exact (from_entries es) (from_sorted es) (λ q. get-from_entries total es q ∙ sym (get-from_sorted R es q s))) ∙ entries-from_sorted R es s
 
+  pub len_again : IsTotalOrder R → CmpEqualImpliesEq R → (es : List (K × X)) → IsStrictlySortedBy R (map (λ (e : K × X). e.0) es) → len (from_entries {R = R} es) ≡ length es
+  len_again total exact es h = len-entries (from_entries {R = R} es) ∙ ap length (entries_again total exact es h)
+
 -- the parts of a text, one after another
-pub parts : (out : List ℕ) (t : Tree) (nodes : List (Fid × Node)) (places : List (EntryKey × Fid)) → entries t.nodes ≡ nodes → entries t.entries ≡ places
-    → ((out ++ tree_head (length nodes) (length places)) ++ flat_map node_text nodes) ++ flat_map entry_text places ≡ out ++ tree_text t
+pub parts : (out : List ℕ) (t : Tree) (nodes : List (Fid × Node)) (places : List (Fid × Names)) → entries t.nodes ≡ nodes → entries t.entries ≡ places
+    → (((out ++ tree_head (length nodes) (entry_count places)) ++ flat_map node_text nodes) ++ flat_map names_text places) ++ flat_map xattrs_text nodes ≡ out ++ tree_text t
 unfolding tree_text
 parts out t nodes places n p =
-    let text : List (Fid × Node) → List (EntryKey × Fid) → List ℕ = λ ns ps. tree_head (length ns) (length ps) ++ (flat_map node_text ns ++ flat_map entry_text ps) in
+    let text : List (Fid × Node) → List (Fid × Names) → List ℕ = λ ns ps. tree_head (length ns) (entry_count ps) ++ (flat_map node_text ns ++ (flat_map names_text ps ++ flat_map xattrs_text ns)) in
     let counted : tree_text t ≡ text (entries t.nodes) (entries t.entries) =
-    ap (λ k. tree_head k (len t.entries) ++ (flat_map node_text (entries t.nodes) ++ flat_map entry_text (entries t.entries))) (len-entries t.nodes)
-    ∙ ap (λ k. tree_head (length (entries t.nodes)) k ++ (flat_map node_text (entries t.nodes) ++ flat_map entry_text (entries t.entries))) (len-entries t.entries) in
-    append_assoc (out ++ tree_head (length nodes) (length places)) (flat_map node_text nodes) (flat_map entry_text places)
-    ∙ append_assoc out (tree_head (length nodes) (length places)) (flat_map node_text nodes ++ flat_map entry_text places)
+    ap (λ k. tree_head k (entry_count (entries t.entries)) ++ (flat_map node_text (entries t.nodes) ++ (flat_map names_text (entries t.entries) ++ flat_map xattrs_text (entries t.nodes)))) (len-entries t.nodes) in
+    append_assoc ((out ++ tree_head (length nodes) (entry_count places)) ++ flat_map node_text nodes) (flat_map names_text places) (flat_map xattrs_text nodes)
+    ∙ append_assoc (out ++ tree_head (length nodes) (entry_count places)) (flat_map node_text nodes) (flat_map names_text places ++ flat_map xattrs_text nodes)
+    ∙ append_assoc out (tree_head (length nodes) (entry_count places)) (flat_map node_text nodes ++ (flat_map names_text places ++ flat_map xattrs_text nodes))
     ∙ ap (λ l. out ++ l) (sym (counted ∙ ap (λ ns. text ns (entries t.entries)) n ∙ ap (λ ps. text nodes ps) p))

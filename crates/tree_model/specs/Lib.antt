@@ -1,9 +1,17 @@
 pub mod Names
+pub mod Fids
 pub mod Tree
+pub mod Changes
 pub mod Step
 pub mod History
+pub mod Keys
+pub mod Looks
 pub mod Participants
+pub mod Striped
+pub mod Kept
+pub mod Laws
 pub mod OpText
+pub mod OpReading
 pub mod ReplyText
 pub mod TreeText
 pub mod Codes

@@ -7,6 +7,7 @@ ghost use Rattle.tree_model.specs.OpText.{IsOp, op_text};
 ghost use Rattle.tree_model.specs.Tree.{Tree};
 ghost use Rattle.tree_model.specs.Step.{step};
 ghost use Rattle.tree_model.specs.History.{Item, tree_from, tree_of, IsLegal};
+ghost use Rattle.tree_model.specs.Laws.{StepIsDecided, OnlyLooksMatter, SameTargets, SameChange, OnlyWrittenChange, LayoutsAreBeside, ClosedPartsAgree, WrittenIsLookedAt};
 
 /// Two operations with one text are one operation, also where their clusters differ.
 pub fn one_text_per_operation()
@@ -33,4 +34,38 @@ pub fn the_tree_of_one_more()
 pub fn a_refused_operation_changes_nothing()
     ensures stays { (targets : ℕ) (t : Tree) (op : Op) (e : Errno)
         → (step targets t op).1 ≡ Reply.Err e → (step targets t op).0 ≡ t }
+{}
+
+/// The step of an operation is what it decides by its looks, one after another.
+pub fn the_step_is_decided_by_looks()
+    ensures decided { StepIsDecided }
+{}
+
+/// Only looks matter: where two trees have the same under each key that an operation looks at, it looks
+/// at the same keys in both, gives the same reply and makes the same change, on the same targets.
+pub fn only_looks_matter()
+    ensures decision { OnlyLooksMatter }
+    ensures targets { SameTargets }
+    ensures change { SameChange }
+{}
+
+/// Only written keys change: a key that no written key meets keeps what stands under it.
+pub fn only_written_keys_change()
+    ensures stays { OnlyWrittenChange }
+{}
+
+/// The layouts of directories stand beside the tree, and no step of the tree depends on them.
+pub fn layouts_are_beside_the_tree()
+    ensures beside { LayoutsAreBeside }
+{}
+
+/// A part of a legal history, in its order, that has what its items depend on is a legal history itself,
+/// and each of its items has the looks, the reply and the change that it has in the whole.
+pub fn a_closed_part_agrees()
+    ensures agrees { ClosedPartsAgree }
+{}
+
+/// Written is looked at: an operation looks at each key that it writes.
+pub fn written_is_looked_at()
+    ensures looked { WrittenIsLookedAt }
 {}

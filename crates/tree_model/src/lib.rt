@@ -5,25 +5,37 @@
 //! and operations, replies and trees have one text each.
 #![tactic(auto)]
 
+mod change;
+mod checks;
+mod directory;
 mod errno;
 mod laws;
 mod name;
+mod node;
 mod op;
+mod op_print;
+mod op_words;
 mod plain_tree;
 mod reading;
 mod reply;
 mod spelling;
 #[cfg(test)]
+mod step_tests;
+#[cfg(test)]
 mod tests;
 mod text;
 
+pub use directory::Entries;
 pub use errno::Errno;
 pub use laws::{
-    a_legal_history_goes_on, a_refused_operation_changes_nothing, one_text_per_operation,
-    the_tree_of_one_more,
+    a_closed_part_agrees, a_legal_history_goes_on, a_refused_operation_changes_nothing,
+    layouts_are_beside_the_tree, one_text_per_operation, only_looks_matter,
+    only_written_keys_change, the_step_is_decided_by_looks, the_tree_of_one_more,
+    written_is_looked_at,
 };
 pub use name::{Name, NameFault};
-pub use op::{Op, OpFault, Request};
-pub use plain_tree::{EntryKey, Node, PlainTree};
+pub use node::{Node, Xattrs};
+pub use op::{Op, OpFault, OpKind, Request};
+pub use plain_tree::PlainTree;
 pub use reading::{number, words};
 pub use reply::Reply;

@@ -1,6 +1,6 @@
-ghost use Rattle.std.specs.Prelude.{◌≡◌, ◌≢◌, ◌↔◌, ◌≤◌, IsTrue, IfOk, OnOk, IsErrOf};
+ghost use Rattle.std.specs.Prelude.{◌≡◌, ◌≢◌, ◌↔◌, ◌≤◌, ℕ, List, IsTrue, IfOk, OnOk, IsErrOf};
 ghost use Rattle.std.specs.List.{AllByRecursion};
-ghost use Rattle.tree_model.specs.Names.{AreBytes, IsName};
+ghost use Rattle.tree_model.specs.Names.{AreBytes, IsName, name_word};
 ghost use Rattle.std.proofs.Common.{rules};
 ghost use Rattle.std.specs.Cmp.{partial_order_from_own_ties};
 ghost use Rattle.std.specs.Cmp.Rules.{comparing};
@@ -8,6 +8,7 @@ ghost use Rattle.std.specs.Ordering.{nat_cmp, as_partial_cmp};
 ghost use Rattle.std.specs.Cmp.Lexicographic.{slice_cmp, pointwise};
 ghost use Rattle.std.specs.Prelude.{◌==◌};
 
+use crate::spelling::spelled;
 use std::alloc::{AllocError as Memory, Global};
 use std::cmp::Ordering;
 use std::marker::Model;
@@ -54,6 +55,20 @@ impl Name {
             Ok(inner) => Ok(Name { inner }),
             Err(_) => Err(NameFault::Memory),
         }
+    }
+
+    /// The name that a word of a text spells: a byte of it that isn't one of 0x21 to 0x7e, or is `%`, stands as `%` and
+    /// two lower-case hexadecimal digits, any other for itself.
+    pub fn parse(alloc: Global, word: &[u8]) -> Result<Name, NameFault>
+        ensures ok { IfOk result (λ n. IsName n × (word.now ≡ name_word n)) }
+        ensures bad { IsErrOf result NameFault.BadName → (n : List ℕ) → IsName n → word.now ≢ name_word n }
+    {
+        let bytes = match spelled(alloc, word) {
+            Ok(Some(bytes)) => bytes,
+            Ok(None) => return Err(NameFault::BadName),
+            Err(_) => return Err(NameFault::Memory),
+        };
+        Name::new(alloc, bytes.as_slice())
     }
 
     /// Lends the bytes, without escapes.

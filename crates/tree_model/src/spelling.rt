@@ -101,6 +101,53 @@ fn digit_of(digit: u8) -> Option<u8>
     }
 }
 
+/// The bytes that a value is written as: two lower-case hexadecimal digits for each, or a dash for none.
+/// `Err` is want of memory alone.
+pub fn hex_bytes(alloc: Global, word: &[u8]) -> Result<Option<Bytes>, Memory>
+    ensures some { IfOk result (λ r. IfSome r (λ v. AreBytes v × (word.now ≡ hex_text v))) }
+    ensures none { IfOk result (λ r. IfNone r ((bytes : List ℕ) → AreBytes bytes → word.now ≢ hex_text bytes)) }
+{
+    if word == b"-".as_slice() {
+        return Ok(Some(Bytes::new(alloc)));
+    }
+    if word.is_empty() {
+        return Ok(None);
+    }
+    digit_pairs(alloc, word)
+}
+
+/// The bytes that pairs of digits write.
+fn digit_pairs(alloc: Global, word: &[u8]) -> Result<Option<Bytes>, Memory>
+    ensures some { IfOk result (λ r. IfSome r (λ v. AreBytes v × (word.now ≡ flat_map hex_byte v))) }
+    ensures none { IfOk result (λ r. IfNone r ((bytes : List ℕ) → AreBytes bytes → word.now ≢ flat_map hex_byte bytes)) }
+{
+    let mut bytes = Bytes::new(alloc);
+    let mut rest = word;
+    while !rest.is_empty() {
+        let (byte, tail) = match first_pair(rest) {
+            Some(first) => first,
+            None => return Ok(None),
+        };
+        bytes.push(byte)?;
+        rest = tail;
+    }
+    Ok(Some(bytes))
+}
+
+/// The byte that the first two digits write, and what is left behind them.
+fn first_pair(word: &[u8]) -> Option<(u8, &[u8])>
+    ensures some { IfSome result (λ r. (r.0 < 256) × (word.now ≡ hex_byte r.0 ++ r.1.now)) }
+    ensures none { IfNone result ((b : ℕ) (rest : List ℕ) → b < 256 → word.now ≢ hex_byte b ++ rest) }
+{
+    match word {
+        [high, low, rest @ ..] => match byte_of(*high, *low) {
+            Some(byte) => Some((byte, rest)),
+            None => None,
+        },
+        _ => None,
+    }
+}
+
 /// Adds two lower-case hexadecimal digits for each byte, or a dash where there is none. After want of
 /// memory a front of it may have been added.
 pub fn print_hex(bytes: &[u8], out: &mut Bytes) -> Result<(), Memory>

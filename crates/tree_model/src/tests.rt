@@ -120,102 +120,215 @@ fn reads_a_create(rt: HostRuntime) -> Result<(), Fail> {
     let mut out = Bytes::new(alloc);
     op.print(&mut out)?;
     assert_eq!(rt; out.bytes(), text.as_bytes());
-    let Op::Create { parent, name, fid } = op;
-    assert_eq!(rt; parent, Fid::ROOT);
-    assert_eq!(rt; name.bytes(), b"a".as_slice());
-    assert_eq!(rt; fid, FILE);
+    match &op {
+        Op::Create { parent, name, fid } => {
+            assert_eq!(rt; *parent, Fid::ROOT);
+            assert_eq!(rt; name.bytes(), b"a".as_slice());
+            assert_eq!(rt; *fid, FILE);
+            Ok(())
+        }
+        _ => Err("no create".into()),
+    }
+}
+
+#[test]
+fn takes_operations_on_entries(rt: HostRuntime) -> Result<(), Fail> {
+    let alloc = rt.alloc();
+    let rows = [
+        ("create [0x200000007:0x1:0x0] !~ [0x200000400:0x1:0x0]", 1),
+        ("create [0x200000007:0x1:0x0] a [0x200100400:0x1:0x0]", 2),
+        ("mkdir [0x200000007:0x1:0x0] a [0x200000400:0x1:0x0]", 1),
+        (
+            "mkdir [0x200000007:0x1:0x0] a [0x200000400:0x1:0x0] 4294967295 0",
+            1,
+        ),
+        ("link [0x200000007:0x1:0x0] a [0x200000400:0x1:0x0]", 1),
+        ("unlink [0x200000007:0x1:0x0] a", 1),
+        ("rmdir [0x200000007:0x1:0x0] a", 1),
+        (
+            "rename [0x200000007:0x1:0x0] a [0x200000400:0x1:0x0] %0a",
+            1,
+        ),
+    ];
+    for (text, targets) in rows {
+        let mut out = Bytes::new(alloc);
+        read(alloc, text.as_bytes(), targets)?.print(&mut out)?;
+        assert_eq!(rt; out.bytes(), text.as_bytes());
+    }
     Ok(())
 }
 
 #[test]
-fn reads_no_other_text(rt: HostRuntime) -> Result<(), Fail> {
+fn takes_operations_on_nodes(rt: HostRuntime) -> Result<(), Fail> {
     let alloc = rt.alloc();
     let rows = [
-        (
-            "create [0x200000007:0x1:0x0] !~ [0x200000400:0x1:0x0]",
-            1,
-            true,
-        ),
-        (
-            "create [0x200000007:0x1:0x0] a [0x200100400:0x1:0x0]",
-            2,
-            true,
-        ),
-        (
-            "create [0x200000007:0x1:0x0] a [0x200100400:0x1:0x0]",
-            1,
-            false,
-        ),
-        (
-            "create [0x200100400:0x1:0x0] a [0x200000400:0x1:0x0]",
-            1,
-            false,
-        ),
-        (
-            "mknod [0x200000007:0x1:0x0] a [0x200000400:0x1:0x0]",
-            1,
-            false,
-        ),
+        ("setattr [0x200000400:0x1:0x0] 4095 0 4294967295", 1),
+        ("setxattr [0x200000400:0x1:0x0] user.a -", 1),
+        ("setxattr [0x200000400:0x1:0x0] user.a 00ff", 1),
+        ("delxattr [0x200000400:0x1:0x0] user.a", 1),
+        ("migrate [0x200000400:0x1:0x0] 0 7", 1),
+        ("lookup [0x200000007:0x1:0x0] a", 1),
+        ("getattr [0x200000400:0x1:0x0]", 1),
+        ("getxattr [0x200000400:0x1:0x0] user.a", 1),
+    ];
+    for (text, targets) in rows {
+        let mut out = Bytes::new(alloc);
+        read(alloc, text.as_bytes(), targets)?.print(&mut out)?;
+        assert_eq!(rt; out.bytes(), text.as_bytes());
+    }
+    Ok(())
+}
+
+#[test]
+fn refuses_the_count_of_words(rt: HostRuntime) {
+    let rows = [
+        ("", OpFault::BadOperation),
         (
             "Create [0x200000007:0x1:0x0] a [0x200000400:0x1:0x0]",
-            1,
-            false,
+            OpFault::BadOperation,
         ),
-        ("create [0x200000007:0x1:0x0] a", 1, false),
+        ("mknod x", OpFault::BadOperation),
+        ("create", OpFault::BadWords),
+        ("create [0x200000007:0x1:0x0] a", OpFault::BadWords),
         (
             "create [0x200000007:0x1:0x0] a [0x200000400:0x1:0x0] ",
-            1,
-            false,
+            OpFault::BadWords,
         ),
         (
             "create  [0x200000007:0x1:0x0] a [0x200000400:0x1:0x0]",
-            1,
-            false,
+            OpFault::BadWords,
         ),
         (
+            "mkdir [0x200000007:0x1:0x0] a [0x200000400:0x1:0x0] 1",
+            OpFault::BadWords,
+        ),
+        ("getattr x y", OpFault::BadWords),
+        (
+            "unlink [0x200000007:0x1:0x0] a [0x200000400:0x1:0x0]",
+            OpFault::BadWords,
+        ),
+        ("create x a [0x200000400:0x1:0x0] y", OpFault::BadWords),
+    ];
+    for (text, want) in rows {
+        match read(rt.alloc(), text.as_bytes(), 1) {
+            Ok(_) => assert!(rt; false, "{text}"),
+            Err(fault) => assert_eq!(rt; fault, want, "{text}"),
+        }
+    }
+}
+
+#[test]
+fn refuses_fids(rt: HostRuntime) {
+    let rows = [
+        (
             "create [0x200000007:0x01:0x0] a [0x200000400:0x1:0x0]",
-            1,
-            false,
+            OpFault::BadFid,
         ),
         (
             "create [0x200000007:0x1:0x0] a 0x200000400:0x1:0x0",
-            1,
-            false,
+            OpFault::BadFid,
+        ),
+        ("create x . y", OpFault::BadFid),
+        ("getattr ", OpFault::BadFid),
+        (
+            "create [0x200000007:0x1:0x0] a [0x200100400:0x1:0x0]",
+            OpFault::NoHome,
+        ),
+        ("create [0x200100400:0x1:0x0] . y", OpFault::NoHome),
+        (
+            "rename [0x200000007:0x1:0x0] a [0x200100400:0x1:0x0] .",
+            OpFault::NoHome,
+        ),
+        (
+            "create [0x200000007:0x1:0x0] . 0x200000400:0x1:0x0",
+            OpFault::BadName,
+        ),
+    ];
+    for (text, want) in rows {
+        match read(rt.alloc(), text.as_bytes(), 1) {
+            Ok(_) => assert!(rt; false, "{text}"),
+            Err(fault) => assert_eq!(rt; fault, want, "{text}"),
+        }
+    }
+}
+
+#[test]
+fn refuses_names(rt: HostRuntime) {
+    let rows = [
+        (
+            "create [0x200000007:0x1:0x0] a%41 [0x200000400:0x1:0x0]",
+            OpFault::BadName,
         ),
         (
             "create [0x200000007:0x1:0x0] a\t [0x200000400:0x1:0x0]",
-            1,
-            false,
+            OpFault::BadName,
         ),
         (
             "create [0x200000007:0x1:0x0] a/b [0x200000400:0x1:0x0]",
-            1,
-            false,
+            OpFault::BadName,
         ),
         (
             "create [0x200000007:0x1:0x0]  [0x200000400:0x1:0x0]",
-            1,
-            false,
-        ),
-        (
-            "create [0x200000007:0x1:0x0] . [0x200000400:0x1:0x0]",
-            1,
-            false,
+            OpFault::BadName,
         ),
         (
             "create [0x200000007:0x1:0x0] .. [0x200000400:0x1:0x0]",
-            1,
-            false,
+            OpFault::BadName,
         ),
-        ("", 1, false),
+        (
+            "rename [0x200000007:0x1:0x0] a [0x200000400:0x1:0x0] ..",
+            OpFault::BadName,
+        ),
+        ("setxattr [0x200000400:0x1:0x0] . x", OpFault::BadName),
     ];
-    for (text, targets, taken) in rows {
-        let got = match read(alloc, text.as_bytes(), targets) {
-            Ok(_) => Ok(()),
-            Err(fault) => Err(fault),
-        };
-        let want = if taken { Ok(()) } else { Err(OpFault::NotYet) };
-        assert_eq!(rt; got, want, "{text}");
+    for (text, want) in rows {
+        match read(rt.alloc(), text.as_bytes(), 1) {
+            Ok(_) => assert!(rt; false, "{text}"),
+            Err(fault) => assert_eq!(rt; fault, want, "{text}"),
+        }
+    }
+}
+
+#[test]
+fn refuses_numbers_and_values(rt: HostRuntime) {
+    let rows = [
+        ("setattr [0x200000400:0x1:0x0] 4096 0 0", OpFault::BadNumber),
+        (
+            "setattr [0x200000400:0x1:0x0] 0 4294967296 x",
+            OpFault::BadNumber,
+        ),
+        ("setattr [0x200000400:0x1:0x0] 0 0 00", OpFault::BadNumber),
+        ("migrate [0x200000400:0x1:0x0] -1 0", OpFault::BadNumber),
+        (
+            "mkdir [0x200000007:0x1:0x0] a [0x200000400:0x1:0x0] 1 +1",
+            OpFault::BadNumber,
+        ),
+        ("setxattr [0x200000400:0x1:0x0] a ", OpFault::BadHex),
+        ("setxattr [0x200000400:0x1:0x0] a 0", OpFault::BadHex),
+        ("setxattr [0x200000400:0x1:0x0] a 0A", OpFault::BadHex),
+        ("setxattr [0x200000400:0x1:0x0] a -00", OpFault::BadHex),
+    ];
+    for (text, want) in rows {
+        match read(rt.alloc(), text.as_bytes(), 1) {
+            Ok(_) => assert!(rt; false, "{text}"),
+            Err(fault) => assert_eq!(rt; fault, want, "{text}"),
+        }
+    }
+}
+
+#[test]
+fn values_have_a_limit(rt: HostRuntime) -> Result<(), Fail> {
+    let alloc = rt.alloc();
+    let mut text = Bytes::new(alloc);
+    text.append(b"setxattr [0x200000400:0x1:0x0] a ")?;
+    for _ in 0..4096 {
+        text.append(b"5a")?;
+    }
+    assert!(rt; read(alloc, text.bytes(), 1).is_ok());
+    text.append(b"5a")?;
+    match read(alloc, text.bytes(), 1) {
+        Ok(_) => assert!(rt; false),
+        Err(fault) => assert_eq!(rt; fault, OpFault::BadHex),
     }
     Ok(())
 }
@@ -245,18 +358,9 @@ fn reads_spelled_names(rt: HostRuntime) -> Result<(), Fail> {
         ("\u{e9}", b"".as_slice()),
     ];
     for (word, bytes) in rows {
-        let text = format!(in alloc; "create [0x200000007:0x1:0x0] {word} [0x200000400:0x1:0x0]")?;
-        match read(alloc, text.as_bytes(), 1) {
-            Ok(op) => {
-                let mut out = Bytes::new(alloc);
-                op.print(&mut out)?;
-                assert_eq!(rt; out.bytes(), text.as_bytes());
-                let Op::Create { name, .. } = op;
-                assert_eq!(rt; name.bytes(), bytes, "{word}");
-            }
-            Err(fault) => {
-                assert!(rt; bytes.is_empty() && fault == OpFault::NotYet, "{word}");
-            }
+        match Name::parse(alloc, word.as_bytes()) {
+            Ok(name) => assert_eq!(rt; name.bytes(), bytes, "{word}"),
+            Err(fault) => assert!(rt; bytes.is_empty() && fault == NameFault::BadName, "{word}"),
         }
     }
     Ok(())

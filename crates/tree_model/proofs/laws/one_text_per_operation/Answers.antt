@@ -1,4 +1,4 @@
-use Rattle.tree_model.proofs.OpTexts.{one_op}
+use Rattle.tree_model.proofs.OneOp.{one_op}
 use Rattle.tree_model.proofs.laws.one_text_per_operation.Goals as goal
 
 pub returns : goal.returns

@@ -1,0 +1,11 @@
+use Rattle.std.proofs.Common.{ap, ◌∙◌}
+use Rattle.std.specs.FinMap as map
+use Rattle.tree_model.specs.Tree.{Names}
+use Rattle.tree_model.specs.Fids.{name_cmp}
+use Rattle.tree_model.proofs.Maps.{put, names_total, exact_names}
+use Rattle.tree_model.proofs.directory.Entries.insert.Goals as goal
+
+pub returns-clause-ok : goal.returns-clause-ok
+returns-clause-ok c =
+    put name_cmp names_total exact_names c.self.inside.inner.entries c.insert.new.self.entries c.args.name c.args.fid c.in_ok-insert.ensures.updates.0
+    ∙ ap (λ (m : Names). map.insert m c.args.name c.args.fid) c.self.view_is

@@ -1,0 +1,11 @@
+use Rattle.std.proofs.Common.{ℕ, List, ap, ◌∙◌}
+use Rattle.std.specs.FinMap as map
+use Rattle.std.specs.FinMap.{FinMap}
+use Rattle.tree_model.specs.Fids.{name_cmp}
+use Rattle.tree_model.proofs.Maps.{taken, names_total, exact_names}
+use Rattle.tree_model.proofs.node.Xattrs.remove.Goals as goal
+
+pub returns : goal.returns
+returns c =
+    taken name_cmp names_total exact_names c.self.inside.inner.entries c.remove.new.self.entries c.args.name.now c.remove.ensures.updates.0
+    ∙ ap (λ (m : FinMap name_cmp (List ℕ)). map.remove m c.args.name.now) c.self.view_is

@@ -1,0 +1,3 @@
+pub mod Indices
+pub mod LayoutLaws
+pub mod Spelled

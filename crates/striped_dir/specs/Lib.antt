@@ -1,0 +1,4 @@
+pub mod Layouts
+pub mod HashText
+pub mod Parts
+pub mod PartLaws

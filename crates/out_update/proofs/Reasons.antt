@@ -51,7 +51,7 @@ unfolding at_params
 params_only [] next on = on
 params_only (s ∷ ss) next on = param_only s (at_params ss next) (params_only ss next on)
 
-head_only : (owner : Option ℕ) (k : Kind) (next : Grammar) → Mine next → Mine (at_head owner k next)
+pub head_only : (owner : Option ℕ) (k : Kind) (next : Grammar) → Mine next → Mine (at_head owner k next)
 unfolding at_head at_flags at_batch at_fid
 head_only owner k next on =
     let g5 = at_params (shapes k) next in
@@ -96,7 +96,7 @@ reply_only next on =
     let count = number_only is_update_reason w16 reason.BadCount (λ n. nat_le n 128) (λ n. nothing 2 (at_results n next)) refl (λ n. nothing_only is_update_reason 2 (at_results n next) refl (results_only n next on)) in
     number_only is_update_reason w32 reason.BadMagic (λ n. n == reply_magic) (λ _. at_reply_count next) refl (λ n. count)
 
-ends_only : Mine Ends
+pub ends_only : Mine Ends
 unfolding Only
 ends_only = tt
 

@@ -224,7 +224,7 @@ first_is n (x ∷ ks) k e =
       | inr h ↦ first_is n ks k h
     ]
 
-kind_is : (n : ℕ) (k : Kind) → kind_at n ≡ Some k → code_of k ≡ n
+pub kind_is : (n : ℕ) (k : Kind) → kind_at n ≡ Some k → code_of k ≡ n
 unfolding kind_at
 kind_is n k e = first_is n kinds k e
 
@@ -232,10 +232,10 @@ kind_is n k e = first_is n kinds k e
 abbrev pub rest_text : Update → List ℕ
 rest_text u = word w16 (length u.params) ++ (word w32 0 ++ (word w64 u.batch ++ (fid_bytes u.fid ++ params_text u.params)))
 
-length-rest : (u : Update) → length (rest_text u) ≡ 30 + length (params_text u.params)
+pub length-rest : (u : Update) → length (rest_text u) ≡ 30 + length (params_text u.params)
 length-rest u = simp (length-append, wide64.len, wide32.len, wide16.len) (omega arith)
 
-head_leads : (owner : Option ℕ) (l : ℕ) (u : Update) (next : Grammar) (p : ℕ) → FitsUpdateOf owner u → p + length (rest_text u) ≤ l → Leads l (at_head owner u.kind next) next p (rest_text u)
+pub head_leads : (owner : Option ℕ) (l : ℕ) (u : Update) (next : Grammar) (p : ℕ) → FitsUpdateOf owner u → p + length (rest_text u) ≤ l → Leads l (at_head owner u.kind next) next p (rest_text u)
 unfolding at_head at_flags at_batch at_fid
 head_leads owner l u next p h fits =
     let k = u.kind in
@@ -267,7 +267,7 @@ head_leads owner l u next p h fits =
 same_rest : (n z : ℕ) (f : List ℕ) (u : Update) → n ≡ length u.params → z ≡ 0 → f ≡ fid_bytes u.fid → word w16 n ++ (word w32 z ++ (word w64 u.batch ++ (f ++ params_text u.params))) ≡ rest_text u
 same_rest n z f u a b c = rw (a, b, c) refl
 
-head_takes : (owner : Option ℕ) (l : ℕ) (k : Kind) (next : Grammar) (p : ℕ) (xs : List ℕ) (e : ℕ) → IsBytes xs → may_stand owner k ≡ true → judge l (at_head owner k next) p xs ≡ Done e → (u : Update) × (u.kind ≡ k) × FitsUpdateOf owner u × Takes l next p xs e (rest_text u)
+pub head_takes : (owner : Option ℕ) (l : ℕ) (k : Kind) (next : Grammar) (p : ℕ) (xs : List ℕ) (e : ℕ) → IsBytes xs → may_stand owner k ≡ true → judge l (at_head owner k next) p xs ≡ Done e → (u : Update) × (u.kind ≡ k) × FitsUpdateOf owner u × Takes l next p xs e (rest_text u)
 unfolding at_head at_flags at_batch at_fid
 head_takes owner l k next p xs e h stands d =
     let g5 = at_params (shapes k) next in

@@ -26,6 +26,7 @@ mod value;
 
 pub use decoder::{Decoder, Progress, ReplyDecoder, ReplyProgress};
 pub use fault::UpdateFault;
+pub use kinds::kind_of;
 pub use laws::{
     one_spelling_per_reply, one_spelling_per_request, verdicts_are_of_spelled_replies,
     verdicts_are_of_spelled_requests,

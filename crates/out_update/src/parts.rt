@@ -48,6 +48,13 @@ impl Parts {
         self.inner.len()
     }
 
+    /// Lends the pairs.
+    pub fn items(&self) -> &[(u8, UpdateRequest)]
+        ensures { result.now ≡ self.now }
+    {
+        self.inner.as_slice()
+    }
+
     /// Lends the pair at an index, counted from 0, or `None` past the end.
     pub fn get(&self, i: usize) -> Option<&(u8, UpdateRequest)>
         ensures { option_copied result ≡ slice_get self.now i }

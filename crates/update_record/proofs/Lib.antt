@@ -1,0 +1,12 @@
+pub mod Reader
+pub mod Records
+pub mod RecordValues
+pub mod Formats
+pub mod Reasons
+pub mod PartLaws
+pub mod Heads
+pub mod Questions
+pub mod FactsTexts
+pub mod MessageLaws
+pub mod MessageReasons
+pub mod Placed

@@ -1,0 +1,11 @@
+pub mod Spelling
+pub mod Reading
+pub mod Positions
+pub mod Values
+pub mod Begins
+pub mod Decoding
+pub mod Messages
+pub mod MessageValues
+pub mod MessageReading
+pub mod MessagePositions
+pub mod MessageBegins

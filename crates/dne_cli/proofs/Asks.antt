@@ -4,14 +4,14 @@ use Rattle.std.specs.List.{AllByRecursion}
 use Rattle.std.proofs.lemmas.List.{length-set}
 use Rattle.tree_model.specs.History.{Item}
 use Rattle.tree_model.specs.declared.op.Request.{Request}
-use Rattle.scenario_text.specs.Spelling.{Entry, Skip, Order, IsEntry, IsRequest, NoFeed, line_of}
+use Rattle.scenario_text.specs.Spelling.{Entry, Skip, Order, IsEntry, IsRequest, NoFeed, is_create, line_of}
 use Rattle.scenario_text.specs.Machine.{Asked, Among, HasAnswer, HaveAnswers, IsTaken, MayStand, is_sent}
 use Rattle.scenario_text.specs.declared.line.Line.{Line}
 use Rattle.scenario_text.specs.declared.command.Command.TheVariants as commands
 use Rattle.scenario_text.proofs.OneSpelling.{limits}
 use Rattle.scenario_text.proofs.Runs.{answer_stays, answer_after}
 use Rattle.dne_cli.specs.Kept.{Kept, Held, is_used}
-use Rattle.dne_cli.specs.Reached.{AsksSame, IsFree, Stands, IsSpelled}
+use Rattle.dne_cli.specs.Reached.{AsksSame, IsPlayedRequest, IsFree, Stands, IsSpelled}
 use Rattle.dne_cli.proofs.Lists.{all_push, all_map, all_among, among_front, among_last, not_sent, flags_more, distinct_push}
 
 -- the numbers that were used matter for a request alone
@@ -42,6 +42,7 @@ taken_here a h said k e s stands clean =
       spelled_entry a.cluster e fits clean,
       may_as a.cluster a.ended (is_used k.used) (is_sent a.sent) e s.used fits
           (subst (λ c. MayStand c a.ended (is_used k.used) e) s.cluster (subst (λ b. MayStand k.cluster b (is_used k.used) e) s.ended stands.1)),
+      stands.2,
     )
 
 -- and what the machine takes, a session takes
@@ -51,6 +52,7 @@ taken_back a h said k e s taken =
       subst (λ c. IsSpelled c e) (sym s.cluster) fits,
       subst (λ c. MayStand c k.ended (is_used k.used) e) (sym s.cluster) (subst (λ b. MayStand a.cluster b (is_used k.used) e) (sym s.ended)
           (may_as a.cluster a.ended (is_sent a.sent) (is_used k.used) e (λ n low. sym (s.used n low)) fits taken.1)),
+      taken.2,
     )
 
 stays : (said ls : List Line) (ws : List Request) (rs : List Request) → AllByRecursion (λ r. HasAnswer r.number said ⊎ Among ws r) rs → AllByRecursion (λ r. HasAnswer r.number (said ++ ls) ⊎ Among ws r) rs
@@ -120,10 +122,11 @@ one_target a h said k s some = find a.cluster some s.one
     find (Some n) some one = ap Some (one n refl)
 
 -- a request was asked for
-pub asks_send : (a : Asked) (h : List Item) (said : List Line) (k : Kept) (r : Request) → AsksSame a h said k → IsRequest a.cluster r → IsSome a.cluster → is_sent a.sent r.number ≡ false
+pub asks_send : (a : Asked) (h : List Item) (said : List Line) (k : Kept) (r : Request) → AsksSame a h said k → IsRequest a.cluster r → is_create r.op ≡ true → IsSome a.cluster → is_sent a.sent r.number ≡ false
     → AsksSame (record a { sent = a.sent ++ r ∷ [] }) h (said ++ []) (record k { waiting = k.waiting ++ r ∷ []; used = set k.used r.number true })
-asks_send a h said k r s fits some unused =
-    let here : IsRequest (Some 1) r = subst (λ c. IsRequest c r) (one_target a h said k s some) fits in
+asks_send a h said k r s fits made some unused =
+    let one : IsRequest (Some 1) r = subst (λ c. IsRequest c r) (one_target a h said k s some) fits in
+    let here : IsPlayedRequest r = (one.0, one.1, one.2, one.3, made) in
     let others = not_sent a.sent r.number unused in
     let more : (q : Request) → Among a.sent q → Among (a.sent ++ r ∷ []) q = λ q m. among_front a.sent (r ∷ []) q m in
     record {
@@ -132,20 +135,20 @@ asks_send a h said k r s fits some unused =
       used = flags_more k.used a.sent r s.flags here.1 s.used;
       flags = length-set k.used r.number true ∙ s.flags;
       one = s.one;
-      requests = all_push (IsRequest (Some 1)) a.sent r s.requests here;
+      requests = all_push IsPlayedRequest a.sent r s.requests here;
       accepted = all_map (λ i. Among a.sent i.request) (λ i. Among (a.sent ++ r ∷ []) i.request) h (λ i m. more i.request m) s.accepted;
       wait = all_push (λ q. Among (a.sent ++ r ∷ []) q) k.waiting r (all_map (λ q. Among a.sent q) (λ q. Among (a.sent ++ r ∷ []) q) k.waiting more s.wait) (among_last a.sent r);
       free = all_push (IsFree h) k.waiting r s.free
           (all_map (λ i. Among a.sent i.request) (λ i. i.request.number ≢ r.number) h (λ i m. all_among (λ q. q.number ≢ r.number) a.sent i.request others m) s.accepted);
       apart = distinct_push k.waiting r s.apart (all_map (λ q. Among a.sent q) (λ q. q.number ≢ r.number) k.waiting (λ q m. all_among (λ p. p.number ≢ r.number) a.sent q others m) s.wait);
       answered = all_push (λ q. HasAnswer q.number (said ++ []) ⊎ Among (k.waiting ++ r ∷ []) q) a.sent r
-          (all_map (λ q. HasAnswer q.number said ⊎ Among k.waiting q) (λ q. HasAnswer q.number (said ++ []) ⊎ Among (k.waiting ++ r ∷ []) q) a.sent (λ q x. one q x) s.answered)
+          (all_map (λ q. HasAnswer q.number said ⊎ Among k.waiting q) (λ q. HasAnswer q.number (said ++ []) ⊎ Among (k.waiting ++ r ∷ []) q) a.sent (λ q x. answered_or q x) s.answered)
           (inr (among_last k.waiting r));
     }
   where
-    one : (q : Request) → HasAnswer q.number said ⊎ Among k.waiting q → HasAnswer q.number (said ++ []) ⊎ Among (k.waiting ++ r ∷ []) q
-    one q (inl x) = inl (answer_stays q.number said [] x)
-    one q (inr x) = inr (among_front k.waiting (r ∷ []) q x)
+    answered_or : (q : Request) → HasAnswer q.number said ⊎ Among k.waiting q → HasAnswer q.number (said ++ []) ⊎ Among (k.waiting ++ r ∷ []) q
+    answered_or q (inl x) = inl (answer_stays q.number said [] x)
+    answered_or q (inr x) = inr (among_front k.waiting (r ∷ []) q x)
 
 -- each request that was sent has its answer, where those that waited have
 pub all_answered : (a : Asked) (h : List Item) (said ls : List Line) (k : Kept) → AsksSame a h said k → HaveAnswers k.waiting ls → HaveAnswers a.sent (said ++ ls)

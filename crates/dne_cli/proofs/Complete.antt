@@ -8,10 +8,11 @@ use Rattle.scenario_text.specs.Spelling.{Entry, Skip, Order, NoFeed, line_of}
 use Rattle.scenario_text.specs.Machine.{Asked, Group, nothing_asked, start, AreTaken, IsTaken, IsRefused, asked_after, asked_all, entries_of, scenario}
 use Rattle.scenario_text.proofs.OneLine.{entry_line, one_entry, not_empty}
 use Rattle.scenario_text.proofs.Runs.{run_asked, run_taken}
-use Rattle.dne_cli.specs.Transcript.{Closes, IsWhole, RefusesLine, LacksEnd, Outcome, IsScenario}
-use Rattle.dne_cli.specs.Words.{code_of}
-use Rattle.dne_cli.specs.declared.status.Status.{Status}
-use Rattle.dne_cli.specs.declared.status.Status.TheVariants.{Done, Refused, Memory, Source, Sink}
+use Rattle.outside.specs.Status.{code_of}
+use Rattle.outside.specs.declared.status.Status.{Status}
+use Rattle.outside.specs.declared.status.Status.TheVariants.{Done, Refused, Memory, Source, Sink}
+use Rattle.scenario_text.specs.Refusals.{Closes, IsWhole}
+use Rattle.dne_cli.specs.Transcript.{RefusesLine, LacksEnd, Outcome, IsScenario}
 
 parts : {X : Type 0} (x y : X) (a b : List X) → x ∷ a ≡ y ∷ b → (x ≡ y) × (a ≡ b)
 parts x y a b e = (cc, cc)

@@ -6,11 +6,12 @@ use Rattle.std.proofs.lemmas.List.{length-replicate, get_or-replicate}
 use Rattle.outside.specs.Disk.{Shown}
 use Rattle.scenario_text.specs.Machine.{start}
 use Rattle.dne_cli.specs.Kept.{Kept, nothing_kept, no_flags}
-use Rattle.dne_cli.specs.Transcript.{Place, Closes, RefusesLine, LacksEnd, RunsOver, Outcome, no_end}
+use Rattle.scenario_text.specs.Refusals.{Closes, no_end}
+use Rattle.dne_cli.specs.Transcript.{Place, RefusesLine, LacksEnd, RunsOver, Outcome}
 use Rattle.dne_cli.specs.Reached.{Reached, Told, status_of}
 use Rattle.dne_cli.specs.declared.status.Stop.{Stop}
-use Rattle.dne_cli.specs.declared.status.Status.{Status}
-use Rattle.dne_cli.specs.declared.status.Status.TheVariants.{Done, Refused, Memory, Source, Sink}
+use Rattle.outside.specs.declared.status.Status.{Status}
+use Rattle.outside.specs.declared.status.Status.TheVariants.{Done, Refused, Memory, Source, Sink}
 use Rattle.dne_cli.proofs.Stops.{retold, told_outcome}
 
 no_length : (l : List ℕ) → length l ≡ 0 → l ≡ []

@@ -4,7 +4,7 @@ use Rattle.std.proofs.Common.{◌≡◌, ◌≢◌, ◌<◌, ◌≤◌, ◌+◌,
 use Rattle.std.proofs.Math.Seq.{drop-cons}
 use Rattle.outside.specs.Disk.{Shown}
 use Rattle.tree_model.specs.declared.op.Request.{Request}
-use Rattle.scenario_text.specs.Spelling.{Entry, Skip, Order, IsCommand, IsSkipped, line_of, spelling}
+use Rattle.scenario_text.specs.Spelling.{Entry, Skip, Order, IsCommand, IsPlayed, IsSkipped, line_of, spelling}
 use Rattle.scenario_text.specs.Machine.{MayCome}
 use Rattle.scenario_text.specs.LineText.{texts, line_text}
 use Rattle.scenario_text.specs.declared.line.Line.{Line}
@@ -38,7 +38,7 @@ count_low h held waiting used same size low =
 -- a line that is skipped
 pub skipped_ok : {T E : Type 0} (result : Result T E) (k : Kept) (line out : List ℕ) → IsSkipped line → OnOk result (k.ended ≡ false)
     → OnOk result ((e : Entry) × (ls : List Line) × Stands k e × (line ≡ line_of e) × Does k e k ls × (out ≡ out ++ texts ls))
-skipped_ok (Ok x) k line out skipped going = (Skip line, [], (skipped, going), refl, (refl, refl), sym (append-nil out))
+skipped_ok (Ok x) k line out skipped going = (Skip line, [], (skipped, going, tt), refl, (refl, refl), sym (append-nil out))
 skipped_ok (Err x) k line out skipped going = tt
 
 -- a line that is skipped behind the end
@@ -61,12 +61,19 @@ barred_bad k line c other fits spelled barred (Order d) stands is =
     let same : d ≡ c = one_command k.cluster k.cluster d c stands.0 fits (sym is ∙ spelled) in
     barred (subst (λ x. MayCome k.cluster k.ended (is_used k.used) x) same stands.1)
 
+-- a line that spells a command that isn't played
+pub unplayed_bad : (k : Kept) (line : List ℕ) (c : Command) → (IsSkipped line → ⊥) → IsCommand k.cluster c → line ≡ spelling c → (IsPlayed c → ⊥) → IsBad k line
+unplayed_bad k line c other fits spelled barred (Skip x) stands is = other (subst IsSkipped (sym is) stands.0)
+unplayed_bad k line c other fits spelled barred (Order d) stands is =
+    let same : d ≡ c = one_command k.cluster k.cluster d c stands.0 fits (sym is ∙ spelled) in
+    barred (subst IsPlayed same stands.2)
+
 -- a command that came
-pub came_ok : {T E : Type 0} (result : Result T E) (k new : Kept) (line out now : List ℕ) (c : Command) → IsCommand k.cluster c → line ≡ spelling c → MayCome k.cluster k.ended (is_used k.used) c
+pub came_ok : {T E : Type 0} (result : Result T E) (k new : Kept) (line out now : List ℕ) (c : Command) → IsCommand k.cluster c → line ≡ spelling c → MayCome k.cluster k.ended (is_used k.used) c → IsPlayed c
     → OnOk result ((ls : List Line) × Obeys k c new ls × (now ≡ out ++ texts ls))
     → OnOk result ((e : Entry) × (ls : List Line) × Stands k e × (line ≡ line_of e) × Does k e new ls × (now ≡ out ++ texts ls))
-came_ok (Ok x) k new line out now c fits spelled comes says = (Order c, says.0, (fits, comes), spelled, says.1, says.2)
-came_ok (Err x) k new line out now c fits spelled comes says = tt
+came_ok (Ok x) k new line out now c fits spelled comes plays says = (Order c, says.0, (fits, comes, plays), spelled, says.1, says.2)
+came_ok (Err x) k new line out now c fits spelled comes plays says = tt
 
 -- a request more is turned away
 pub turned_next : (rs : List Request) (i : ℕ) (r : Request) (out new old : List ℕ) → i < length rs → r ≡ get_or rs i r → out ++ texts (turned_away (drop i rs)) ≡ old → new ≡ out ++ line_text (lines.Recovering r.number 0)

@@ -16,7 +16,7 @@ use Rattle.tree_model.specs.declared.op.Op.{Op}
 use Rattle.tree_model.specs.declared.op.Op.TheVariants as ops
 use Rattle.tree_model.specs.declared.op.Request.{Request}
 use Rattle.tree_model.proofs.Histories.{tree_from-push}
-use Rattle.scenario_text.specs.Spelling.{IsRequest, is_create}
+use Rattle.scenario_text.specs.Spelling.{is_create}
 use Rattle.scenario_text.specs.Machine.{State, Accepts, Among, Answers, IsAnswer, IsStale, SameSeat, SaysAll, HaveAnswers, serves, targets_of}
 use Rattle.scenario_text.specs.declared.line.Standing.TheVariants.{Serving}
 use Rattle.scenario_text.specs.declared.line.Line.{Line}
@@ -24,7 +24,7 @@ use Rattle.scenario_text.specs.declared.line.Line.TheVariants as lines
 use Rattle.scenario_text.proofs.Runs.{answers_after}
 use Rattle.dne_cli.specs.Image.{item_bytes, items_bytes}
 use Rattle.dne_cli.specs.Kept.{Ledger, accepted_by, is_late, item_for, seat_of, serve_lines, served, served_lines, served_one, turned_away, two_lines}
-use Rattle.dne_cli.specs.Reached.{Matches, IsFree, AreDistinct, greatest}
+use Rattle.dne_cli.specs.Reached.{IsPlayedRequest, Matches, IsFree, AreDistinct, greatest}
 use Rattle.dne_cli.proofs.Lists.{all_push, all_map, all_among, among_last, greatest_above, greatest_item, seats_more}
 
 and_right : (a b : Bool) → a && b ≡ true → b ≡ true
@@ -48,7 +48,7 @@ op_home (ops.Create p x f) is h = place_one p h.0.1
 op_home _ is h = cc
 
 -- the home of a request to a cluster of one target
-pub request_home : (n : ℕ) (r : Request) → n ≡ 1 → IsRequest (Some 1) r → home_of n r.op ≡ Some 0
+pub request_home : (n : ℕ) (r : Request) → n ≡ 1 → IsPlayedRequest r → home_of n r.op ≡ Some 0
 request_home n r is h = ap (λ m. home_of m r.op) is ∙ op_home r.op h.4 h.3
 
 all_both : {X : Type 0} (P Q R : X → Type 0) (xs : List X) → ((x : X) → P x → Q x → R x) → AllByRecursion P xs → AllByRecursion Q xs → AllByRecursion R xs
@@ -73,7 +73,7 @@ pub record Serves (s : State) (l : Ledger) (ws : List Request) : Type 0 where
 pub record IsReady (s : State) (l : Ledger) (ws : List Request) : Type 0 where
   pub one : targets_of s ≡ 1
   pub serving : s.standing ≡ Serving
-  pub requests : AllByRecursion (IsRequest (Some 1)) s.asked.sent
+  pub requests : AllByRecursion IsPlayedRequest s.asked.sent
   pub accepted : AllByRecursion (λ i. Among s.asked.sent i.request) s.history
   pub matches : Matches (targets_of s) s.history s.pend l
   pub counted : s.last + length s.pend ≡ length s.history
@@ -84,11 +84,11 @@ pub record IsReady (s : State) (l : Ledger) (ws : List Request) : Type 0 where
 -- a request that is late is answered so
 stale : (s : State) (l : Ledger) (r : Request) (rs : List Request) → IsReady s l (r ∷ rs) → is_late l r ≡ true → IsStale s r.number (seat_of l r.client) s
 stale s l r rs y late =
-    let fits : IsRequest (Some 1) r = all_among (IsRequest (Some 1)) s.asked.sent r y.requests y.wait.0 in
+    let fits : IsPlayedRequest r = all_among IsPlayedRequest s.asked.sent r y.requests y.wait.0 in
     let seat : seat_of l r.client ≡ greatest r.client s.history = y.matches.seats r.client (omega (arith, fits.2)) in
     let low = ltb-true r.number (seat_of l r.client) late in
     let g = greatest_item r.client s.history (omega (arith, low, seat)) in
-    let other : IsRequest (Some 1) g.item.request = all_among (IsRequest (Some 1)) s.asked.sent g.item.request y.requests (all_among (λ i. Among s.asked.sent i.request) s.history g.item y.accepted g.among) in
+    let other : IsPlayedRequest g.item.request = all_among IsPlayedRequest s.asked.sent g.item.request y.requests (all_among (λ i. Among s.asked.sent i.request) s.history g.item y.accepted g.among) in
     record {
       request = r;
       sent = y.wait.0;
@@ -136,7 +136,7 @@ after_one s r = record s { history = s.history ++ item_of s r ∷ []; pend = s.p
 
 below : (s : State) (l : Ledger) (r : Request) (rs : List Request) → IsReady s l (r ∷ rs) → is_late l r ≡ false → greatest r.client s.history ≤ r.number
 below s l r rs y new =
-    let fits : IsRequest (Some 1) r = all_among (IsRequest (Some 1)) s.asked.sent r y.requests y.wait.0 in
+    let fits : IsPlayedRequest r = all_among IsPlayedRequest s.asked.sent r y.requests y.wait.0 in
     let seat : seat_of l r.client ≡ greatest r.client s.history = y.matches.seats r.client (omega (arith, fits.2)) in
     let high = ltb-false r.number (seat_of l r.client) new in
     omega (arith, high, seat)
@@ -184,7 +184,7 @@ matches_more s l r rs y new =
     let h : List Item = s.history in
     let i : Item = item_of s r in
     let m = y.matches in
-    let fits : IsRequest (Some 1) r = all_among (IsRequest (Some 1)) s.asked.sent r y.requests y.wait.0 in
+    let fits : IsPlayedRequest r = all_among IsPlayedRequest s.asked.sent r y.requests y.wait.0 in
     let same : item_for l r ≡ i = ap (λ (g : Grown). record { request = r; reply = (step g.targets g.tree r.op).1 }) m.tree in
     record {
       tree = ap (λ (g : Grown). record { targets = g.targets; tree = (step g.targets g.tree r.op).0 }) m.tree ∙ ap (λ t. record { targets = n; tree = t }) (sym (tree_from-push n base h i));
@@ -269,10 +269,10 @@ serve_all (r ∷ rs) s l y = elim (cases_Bool (is_late l r)) [
     }
 
 -- a target that doesn't serve turns each request away
-pub turned_says : (ws : List Request) (s : State) → targets_of s ≡ 1 → serves s.standing ≡ false → AllByRecursion (IsRequest (Some 1)) s.asked.sent → AllByRecursion (λ r. Among s.asked.sent r) ws → SaysAll s (turned_away ws) s
+pub turned_says : (ws : List Request) (s : State) → targets_of s ≡ 1 → serves s.standing ≡ false → AllByRecursion IsPlayedRequest s.asked.sent → AllByRecursion (λ r. Among s.asked.sent r) ws → SaysAll s (turned_away ws) s
 turned_says [] s one stopped fits wait = refl
 turned_says (r ∷ rs) s one stopped fits wait =
-    (s, record { request = r; sent = wait.0; numbered = refl; home = request_home (targets_of s) r one (all_among (IsRequest (Some 1)) s.asked.sent r fits wait.0); stopped = stopped; after = refl }, turned_says rs s one stopped fits wait.1)
+    (s, record { request = r; sent = wait.0; numbered = refl; home = request_home (targets_of s) r one (all_among IsPlayedRequest s.asked.sent r fits wait.0); stopped = stopped; after = refl }, turned_says rs s one stopped fits wait.1)
 
 pub turned_lines : (ws : List Request) → AllByRecursion IsAnswer (turned_away ws)
 turned_lines [] = tt

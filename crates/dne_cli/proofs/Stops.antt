@@ -13,11 +13,12 @@ use Rattle.scenario_text.specs.declared.line.Standing.TheVariants.{Serving, Down
 use Rattle.scenario_text.specs.declared.line.Line.{Line}
 use Rattle.scenario_text.proofs.Runs.{run_more, run_asked, served_more, entries-push, lines-push}
 use Rattle.dne_cli.specs.Kept.{Kept, Held}
-use Rattle.dne_cli.specs.Transcript.{Counted, IsFailure, KeepsRun, Place, Closes, PassesLimit, refusal, IsWhole, RefusesLine, LacksEnd, RunsOver, Outcome}
-use Rattle.dne_cli.specs.Reached.{Agrees, HoldsSame, Reached, Stored, Takes, IsBad, IsFull, Told, StopsAt, status_of}
+use Rattle.scenario_text.specs.Refusals.{IsFull, Closes, PassesLimit, refusal, IsWhole}
+use Rattle.dne_cli.specs.Transcript.{Counted, IsFailure, KeepsRun, Place, RefusesLine, LacksEnd, RunsOver, Outcome}
+use Rattle.dne_cli.specs.Reached.{Agrees, HoldsSame, Reached, Stored, Takes, IsBad, Told, StopsAt, status_of}
 use Rattle.dne_cli.specs.declared.status.Stop.{Stop}
 use Rattle.dne_cli.specs.declared.status.Stop.TheVariants as stops
-use Rattle.dne_cli.specs.declared.status.Status.TheVariants as statuses
+use Rattle.outside.specs.declared.status.Status.TheVariants as statuses
 use Rattle.dne_cli.proofs.Lists.{all_push}
 use Rattle.dne_cli.proofs.Asks.{taken_back}
 use Rattle.dne_cli.proofs.Storing.{bears_all, holds_all}

@@ -9,7 +9,7 @@ use Rattle.tree_model.specs.OpText.{IsOp}
 use Rattle.tree_model.specs.declared.op.Op.{Op}
 use Rattle.tree_model.specs.declared.op.Op.TheVariants as ops
 use Rattle.tree_model.specs.declared.op.Request.{Request}
-use Rattle.scenario_text.specs.Spelling.{Entry, Skip, Order, IsRequest, is_create}
+use Rattle.scenario_text.specs.Spelling.{Entry, Skip, Order, is_create}
 use Rattle.scenario_text.specs.Machine.{Asked, State, Turn, SaysAll, Among, CommitLines, EndLines, TreeLines, IsAnswer, IsGroup, IsServed, IsTaken, asked_after, begun, is_formatted, is_settle, serves, targets_of}
 use Rattle.scenario_text.specs.declared.line.Line.{Line}
 use Rattle.scenario_text.specs.declared.line.Line.TheVariants as lines
@@ -19,7 +19,7 @@ use Rattle.scenario_text.specs.declared.command.Command.TheVariants as commands
 use Rattle.dne_cli.specs.Image.{items_bytes}
 use Rattle.dne_cli.specs.Kept.{Kept, Held, Ledger, Committed, Torn, Commits, Ends, Founds, all_stable, empty_ledger, image_bytes, ledger_after, no_seats, served, served_lines, serving_on, settle_lines, standing_of, stopped, tree_lines, turned_away}
 use Rattle.dne_cli.specs.Transcript.{IsFailure}
-use Rattle.dne_cli.specs.Reached.{Agrees, AsksSame, HoldsSame, Matches, Stored, greatest}
+use Rattle.dne_cli.specs.Reached.{IsPlayedRequest, Agrees, AsksSame, HoldsSame, Matches, Stored, greatest}
 use Rattle.dne_cli.proofs.Lists.{all_map, all_among}
 use Rattle.dne_cli.proofs.Asks.{asks_on, asks_end, asks_cluster, asks_send, asks_settle, all_answered, one_target}
 use Rattle.dne_cli.proofs.Settling.{IsReady, Serves, serve_all, turned_says, turned_lines, turned_answers}
@@ -107,7 +107,7 @@ all_take P zero xs h = tt
 all_take P (suc n) [] h = tt
 all_take P (suc n) (x ∷ xs) h = (h.0, all_take P n xs h.1)
 
-item_fits : (i : Item) → IsRequest (Some 1) i.request → Fits i
+item_fits : (i : Item) → IsPlayedRequest i.request → Fits i
 item_fits i r = record { number = (let n = r.1 in omega (arith, n)); client = (let c = r.2 in omega (arith, c)); name = short i.request.op r.4 r.3; create = r.4 }
   where
     short : (o : Op) → is_create o ≡ true → IsOp 1 o → length (name_of o) < 256
@@ -118,7 +118,7 @@ item_fits i r = record { number = (let n = r.1 in omega (arith, n)); client = (l
 pub reads_again : (a : Asked) (h : List Item) (said : List Line) (k : Kept) → AsksSame a h said k → length h < 2 ^ 32 → ReadsAgain h
 reads_again a h said k s few = λ n most.
     let size = length-take-le n h most in
-    numbers_again (take n h) (all_take Fits n h (all_map (λ (i : Item). Among a.sent i.request) Fits h (λ i m. item_fits i (all_among (IsRequest (Some 1)) a.sent i.request s.requests m)) s.accepted)) (omega (arith, size, few, most))
+    numbers_again (take n h) (all_take Fits n h (all_map (λ (i : Item). Among a.sent i.request) Fits h (λ i m. item_fits i (all_among IsPlayedRequest a.sent i.request s.requests m)) s.accepted)) (omega (arith, size, few, most))
 
 -- EACH LINE
 
@@ -206,7 +206,7 @@ send_turn r s said n k a taken = record {
   turn = (taken, refl, refl);
   served = λ e. absurd (true_false (sym e));
   agrees = record {
-    asks = asks_send s.asked s.history said k r a.asks taken.0 taken.1.0.0 taken.1.1;
+    asks = asks_send s.asked s.history said k r a.asks taken.0 taken.2 taken.1.0.0 taken.1.1;
     few = (let f = a.few in let b = length-append k.waiting (r ∷ []) in omega (arith, f, b));
     holds = holds_sent s n k.target (s.asked.sent ++ r ∷ []) a.holds;
   };
@@ -228,7 +228,7 @@ cluster_turn m s said n k target ls a taken (inl (d, formatted, is, none)) =
       turn = (taken, inl refl, refl);
       served = λ e. absurd (true_false (sym e));
       agrees = record {
-        asks = asks_cluster s.asked s.history said [] k held m taken.0 a.asks;
+        asks = asks_cluster s.asked s.history said [] k held m taken.2 a.asks;
         few = (let f = a.few in omega (arith, f));
         holds = record {
           standing = refl;
@@ -269,7 +269,7 @@ cluster_turn m s said n k target ls a taken (inr (d, faulted, is, one)) =
       turn = (taken, inr refl, (t, refl, refl));
       served = λ e. absurd (true_false (sym e));
       agrees = record {
-        asks = asks_cluster s.asked s.history said down k held m taken.0 a.asks;
+        asks = asks_cluster s.asked s.history said down k held m taken.2 a.asks;
         few = (let f = a.few in omega (arith, f));
         holds = record {
           standing = refl;

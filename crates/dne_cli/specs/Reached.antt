@@ -5,8 +5,9 @@ use Rattle.outside.specs.Disk.{Shown, IsImage}
 use Rattle.target_disk.specs.Slots.{opened}
 use Rattle.target_disk.specs.Store.{IsSettled}
 use Rattle.tree_model.specs.History.{Item, tree_of}
+use Rattle.tree_model.specs.OpText.{IsOp}
 use Rattle.tree_model.specs.declared.op.Request.{Request}
-use Rattle.scenario_text.specs.Spelling.{Entry, Skip, Order, IsCommand, IsSkipped, IsRequest, line_of}
+use Rattle.scenario_text.specs.Spelling.{Entry, Skip, Order, IsCommand, IsPlayedEntry, IsSkipped, is_create, line_of}
 use Rattle.scenario_text.specs.LineText.{texts}
 use Rattle.scenario_text.specs.Machine.{Asked, State, Among, HasAnswer, MayStand, is_formatted, is_sent, lines_of, targets_of}
 use Rattle.scenario_text.specs.declared.line.Line.{Line}
@@ -14,11 +15,12 @@ use Rattle.scenario_text.specs.declared.line.Standing.{Standing}
 use Rattle.scenario_text.specs.declared.line.Standing.TheVariants.{Serving, Opened, Down}
 use Rattle.dne_cli.specs.Image.{items_bytes, image_of}
 use Rattle.dne_cli.specs.Kept.{Kept, Held, Ledger, Does, is_used, seat_of, standing_of}
-use Rattle.dne_cli.specs.Transcript.{Place, refusal}
+use Rattle.scenario_text.specs.Refusals.{refusal}
+use Rattle.dne_cli.specs.Transcript.{Place}
 use Rattle.dne_cli.specs.declared.status.Stop.{Stop}
 use Rattle.dne_cli.specs.declared.status.Stop.TheVariants as stops
-use Rattle.dne_cli.specs.declared.status.Status.{Status}
-use Rattle.dne_cli.specs.declared.status.Status.TheVariants as statuses
+use Rattle.outside.specs.declared.status.Status.{Status}
+use Rattle.outside.specs.declared.status.Status.TheVariants as statuses
 
 -- the greatest number of a client in a history, or 0
 abbrev pub greatest : ℕ → List Item → ℕ
@@ -65,6 +67,10 @@ Stored Serving last history lines disk = StandsAt last history lines disk
 Stored Opened last history lines disk = StandsAt last history lines disk
 Stored Down last history lines disk = (image : List ℕ) → IsImage disk.settled image → OpensAsFront last history lines image
 
+-- a request that is played, in a cluster of one target
+abbrev pub IsPlayedRequest : Request → Type 0
+IsPlayedRequest r = (1 ≤ r.number) × (r.number ≤ 65536) × (r.client < 64) × IsOp 1 r.op × (is_create r.op ≡ true)
+
 -- what a session keeps of what was asked for and accepted, after these lines of the transcript
 pub record AsksSame (a : Asked) (history : List Item) (said : List Line) (k : Kept) : Type 0 where
   pub cluster : k.cluster ≡ a.cluster
@@ -72,7 +78,7 @@ pub record AsksSame (a : Asked) (history : List Item) (said : List Line) (k : Ke
   pub used : (n : ℕ) → n ≤ 65536 → is_used k.used n ≡ is_sent a.sent n
   pub flags : length k.used ≡ 65537
   pub one : (n : ℕ) → a.cluster ≡ Some n → n ≡ 1
-  pub requests : AllByRecursion (IsRequest (Some 1)) a.sent
+  pub requests : AllByRecursion IsPlayedRequest a.sent
   pub accepted : AllByRecursion (λ i. Among a.sent i.request) history
   pub wait : AllByRecursion (λ r. Among a.sent r) k.waiting
   pub free : AllByRecursion (IsFree history) k.waiting
@@ -114,7 +120,7 @@ IsSpelled cluster (Order c) = IsCommand cluster c
 
 -- what may stand on a session's next line
 abbrev pub Stands : Kept → Entry → Type 0
-Stands k e = IsSpelled k.cluster e × MayStand k.cluster k.ended (is_used k.used) e
+Stands k e = IsSpelled k.cluster e × MayStand k.cluster k.ended (is_used k.used) e × IsPlayedEntry e
 
 -- the line stands, and this is what comes of it
 abbrev pub Takes : Kept → Kept → List ℕ → List ℕ → Type 0
@@ -123,10 +129,6 @@ Takes old new line more = (e : Entry) × (ls : List Line) × Stands old e × (li
 -- nothing that may stand on the line is spelled so
 abbrev pub IsBad : Kept → List ℕ → Type 0
 IsBad k line = (e : Entry) → Stands k e → line ≢ line_of e
-
--- a line is refused before its next byte is taken
-abbrev pub IsFull : ℕ → ℕ → List ℕ → ℕ → Type 0
-IsFull count total rest byte = (1000000 ≤ count) ⊎ (67108864 ≤ total) ⊎ ((byte ≢ 10) × (16384 ≤ length rest))
 
 -- what is written of a whole text where a run stops with it
 abbrev pub Told : Stop → List ℕ → List ℕ → Type 0

@@ -1,9 +1,9 @@
 -- What the program may write over the bytes that it reads, and what the disk then holds.
-use Rattle.std.specs.Prelude.{◌≡◌, ◌≢◌, ◌<◌, ◌≤◌, ◌⊎◌, ◌+◌, ℕ, Bool, true, false, IsTrue, length, take, List, [], ◌∷◌, ◌++◌, codes}
+use Rattle.std.specs.Prelude.{◌≡◌, ◌≢◌, ◌≤◌, ◌⊎◌, ◌+◌, ℕ, Bool, true, false, IsTrue, length, take, List, [], ◌∷◌, ◌++◌}
 use Rattle.std.specs.List.{AllByRecursion}
-use Rattle.std.specs.Fmt.{decimal}
 use Rattle.outside.specs.Causes.{Rose}
 use Rattle.outside.specs.Disk.{Shown, IsImage}
+use Rattle.scenario_text.specs.Refusals.{Closes, IsWhole, PassesLimit, refusal, no_end}
 use Rattle.scenario_text.specs.Spelling.{Entry, Skip, Order, NoFeed, line_of}
 use Rattle.scenario_text.specs.Machine.{nothing_asked, State, start, Group, Run, AllServed, AreTaken, Among, FitsFront, IsRefused, asked_all, entries_of, is_formatted, numbers_of, scenario, targets_of, transcript}
 use Rattle.scenario_text.specs.declared.command.Command.TheVariants as commands
@@ -11,8 +11,8 @@ use Rattle.scenario_text.specs.declared.line.Line.TheVariants as lines
 use Rattle.scenario_text.specs.declared.line.Standing.TheVariants.{Down}
 use Rattle.dne_cli.specs.Image.{Holds}
 use Rattle.dne_cli.specs.Share.{HoldsShare}
-use Rattle.dne_cli.specs.declared.status.Status.{Status}
-use Rattle.dne_cli.specs.declared.status.Status.TheVariants.{Done, Refused, Memory, Source, Sink}
+use Rattle.outside.specs.declared.status.Status.{Status}
+use Rattle.outside.specs.declared.status.Status.TheVariants.{Done, Refused, Memory, Source, Sink}
 
 -- THE DISK
 
@@ -73,25 +73,7 @@ pub record Place (first disk : Shown) (bytes text : List ℕ) : Type 0 where
 
 -- TEXT
 
--- the line with this number, of which so much came, passes a limit, with so many bytes of the scenario
-abbrev pub PassesLimit : ℕ → List ℕ → ℕ → Type 0
-PassesLimit number line total = (1000000 < number) ⊎ (16384 < length line) ⊎ (67108864 < total)
-
-abbrev pub refusal : ℕ → List ℕ
-refusal number = codes "line " ++ (decimal number ++ codes ": NotYet\n")
-
-abbrev pub no_end : ℕ → List ℕ
-no_end number = codes "line " ++ (decimal number ++ codes ": NoEnd\n")
-
 -- In what follows AtEnd says that the input has nothing left.
-
--- at the end a last line that lacks its line feed counts as if it had it
-abbrev pub Closes : Type 0 → List ℕ → List ℕ → Type 0
-Closes AtEnd read whole = (whole ≡ read) ⊎ (AtEnd × (whole ≡ read ++ 10 ∷ []))
-
--- a line is whole where its line feed came, or where it isn't empty and the input ended
-abbrev pub IsWhole : Type 0 → List ℕ → List ℕ → List ℕ → Type 0
-IsWhole AtEnd line feed tail = (feed ≡ 10 ∷ []) ⊎ ((feed ≡ []) × (tail ≡ []) × AtEnd)
 
 -- The lines before it were run, and this line, which has begun, passes a limit, or is whole and spells
 -- nothing that may come. The last thing written is its refusal.
@@ -151,8 +133,8 @@ Outcome AtEnd first disk Sink read text =
     (more : List ℕ)
     × (RunsOver AtEnd first read (text ++ more) ⊎ (RefusesLine AtEnd first disk read (text ++ more) ⊎ LacksEnd AtEnd first disk read (text ++ more)))
 
--- A scenario in the grammar and inside the limits: what may stand on one line after another, the last of
--- them `end`.
+-- A scenario in the grammar and inside the limits, as far as it is played: what is taken on one line after
+-- another, the last of them `end`.
 pub record IsScenario (bytes : List ℕ) : Type 0 where
   pub entries : List Entry
   pub taken : AreTaken nothing_asked entries

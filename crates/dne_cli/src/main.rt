@@ -9,6 +9,7 @@ ghost use Rattle.std.specs.Prelude.{◌≡◌, vec_len, IfOk};
 
 mod image;
 mod ledger;
+mod modes;
 mod player;
 mod session;
 mod status;
@@ -18,6 +19,8 @@ mod target;
 mod tests;
 mod top;
 mod turns;
+#[cfg(test)]
+mod word_tests;
 
 use outside::{MemoryDisk, Plant, StreamSink, StreamSource};
 use std::alloc::{AllocError as Memory, Global};

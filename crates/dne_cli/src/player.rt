@@ -3,24 +3,16 @@ ghost use Rattle.std.specs.Io.KnownBytes.{Appends};
 ghost use Rattle.outside.specs.Causes.{Rose};
 ghost use Rattle.outside.specs.Disk.{Shown};
 ghost use Rattle.dne_cli.specs.Kept.{nothing_kept, Touches};
-ghost use Rattle.dne_cli.specs.Transcript.{Closes, Outcome, LacksEnd, refusal, no_end};
-ghost use Rattle.dne_cli.specs.Reached.{Reached, Takes, StopsAt, Told, IsFull, status_of};
+ghost use Rattle.scenario_text.specs.Refusals.{Closes, IsFull, refusal, no_end};
+ghost use Rattle.dne_cli.specs.Transcript.{Outcome, LacksEnd};
+ghost use Rattle.dne_cli.specs.Reached.{Reached, Takes, StopsAt, Told, status_of};
 
 use crate::session::Session;
-use crate::status::{Status, Stop, status_of};
+use crate::status::{Stop, status_of};
 use fid_space::Bytes;
-use outside::{Plant, Sink, put_all};
-use scenario_text::TextFault;
-use std::alloc::{AllocError as Memory, Global};
-
-/// How many lines a scenario has at most.
-const MOST_LINES: u64 = 1_000_000;
-
-/// How many bytes a line has at most, without its line feed.
-const MOST_LINE_BYTES: usize = 16_384;
-
-/// How many bytes a scenario has at most.
-const MOST_BYTES: u64 = 67_108_864;
+use outside::{Plant, Sink, Status, put_all};
+use scenario_text::{TextFault, is_full, print_no_end, print_refusal};
+use std::alloc::Global;
 
 /// A scenario while its bytes come in: the session, the line that hasn't ended, and how many lines and
 /// bytes came before.
@@ -96,9 +88,7 @@ impl<D: Plant> Player<D> {
     fn is_full(&self, byte: u8) -> bool
         ensures { IsTrue result ↔ IsFull self.now.count self.now.total self.now.rest byte }
     {
-        self.count >= MOST_LINES
-            || self.total >= MOST_BYTES
-            || (byte != b'\n' && self.rest.len() >= MOST_LINE_BYTES)
+        is_full(self.count, self.total, self.rest.bytes(), byte)
     }
 
     /// Takes one byte more.
@@ -252,22 +242,4 @@ fn lack_end<O: Sink>(alloc: Global, line: u64, output: &mut O) -> Stop
         Ok(()) => Stop::Refused,
         Err(_) => Stop::Sink,
     }
-}
-
-/// Adds the refusal of a line.
-fn print_refusal(line: u64, out: &mut Bytes) -> Result<(), Memory>
-    ensures { OnOk result (out.new ≡ out.old ++ refusal line) }
-{
-    let alloc = out.alloc();
-    let text = format!(in alloc; "line {line}: NotYet\n")?;
-    out.append(text.as_bytes())
-}
-
-/// Adds the line for a scenario that lacks its `end`.
-fn print_no_end(line: u64, out: &mut Bytes) -> Result<(), Memory>
-    ensures { OnOk result (out.new ≡ out.old ++ no_end line) }
-{
-    let alloc = out.alloc();
-    let text = format!(in alloc; "line {line}: NoEnd\n")?;
-    out.append(text.as_bytes())
 }

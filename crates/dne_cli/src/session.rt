@@ -1,5 +1,5 @@
 ghost use Rattle.std.specs.Prelude.{◌≡◌, ◌≢◌, ◌++◌, [], ◌↔◌, ◌≤◌, List, true, false, IsTrue, IfOk, OnOk, IfErr, IsErr, Err};
-ghost use Rattle.scenario_text.specs.Spelling.{Entry, IsCommand, IsSkipped, line_of};
+ghost use Rattle.scenario_text.specs.Spelling.{Entry, IsCommand, line_of};
 ghost use Rattle.scenario_text.specs.Machine.{MayCome};
 ghost use Rattle.scenario_text.specs.LineText.{texts};
 ghost use Rattle.scenario_text.specs.declared.command.Command.{Command};
@@ -12,7 +12,7 @@ use crate::target::{Halted, Target};
 use crate::turns::{commit_target, crash_target, end_target, found_target, restart_target};
 use fid_space::{Bytes, Cluster};
 use outside::Plant;
-use scenario_text::{Command, TextFault, print_recovering, print_tree_state};
+use scenario_text::{Command, TextFault, is_skipped, print_recovering, print_tree_state};
 use std::alloc::{AllocError as Memory, Global};
 use std::marker::Model;
 use std::mem;
@@ -278,6 +278,9 @@ impl<D: Plant> Session<D> {
             Ok(command) => command,
             Err(fault) => return Err(fault),
         };
+        if !command.is_played() {
+            return Err(TextFault::NotYet);
+        }
         if !self.may_come(&command) {
             return Err(TextFault::NotYet);
         }
@@ -305,16 +308,6 @@ fn flags(alloc: Global, len: usize) -> Result<Vec<bool>, Memory>
     ensures { IfOk result (λ v. v.items ≡ no_flags len) }
 {
     vec![in alloc; false; len]
-}
-
-/// Whether a line is empty, or a comment.
-fn is_skipped(line: &[u8]) -> bool
-    ensures { IsTrue result ↔ IsSkipped line.now }
-{
-    match line {
-        [] => true,
-        [first, ..] => *first == b'#',
-    }
 }
 
 /// Adds a line for each request that came to a target that doesn't serve.

@@ -186,7 +186,7 @@ fn long_lines_and_other_bytes(rt: HostRuntime) -> Result<(), Fail> {
 #[test]
 fn other_words(rt: HostRuntime) -> Result<(), Fail> {
     let alloc = rt.alloc();
-    for word in ["", "Play", "play ", "--help", "model"] {
+    for word in ["", "Play", "play ", "--help", "plays"] {
         let (got, output) = run(alloc, word, b"cluster 1\nend\n", &[], &[])?;
         assert_eq!(rt; got, 2, "{word}");
         assert_eq!(rt; output.bytes(), b"words: BadWords\n".as_slice(), "{word}");

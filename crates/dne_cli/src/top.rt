@@ -5,22 +5,24 @@ ghost use Rattle.outside.specs.Disk.{Shown};
 ghost use Rattle.dne_cli.specs.Kept.{Touches};
 ghost use Rattle.dne_cli.specs.Transcript.{Outcome, IsScenario};
 ghost use Rattle.dne_cli.specs.Reached.{Reached};
-ghost use Rattle.dne_cli.specs.Words.{IsPlay, bad_words, code_of};
-ghost use Rattle.dne_cli.specs.declared.status.Status.{Status};
+ghost use Rattle.dne_cli.specs.Words.{IsPlay, IsModel, IsDecodeRequest, IsDecodeRecord, IsDecodeLog, IsOther, Answers, all_bytes};
+ghost use Rattle.model_mode.specs.Outcome.{Outcome as RunsPlainly, IsScenario as IsPlainScenario};
+ghost use Rattle.decode_mode.specs.Requests.{AnswersRequest};
+ghost use Rattle.decode_mode.specs.Records.{AnswersRecord};
+ghost use Rattle.decode_mode.specs.Logs.{AnswersLog};
+ghost use Rattle.outside.specs.Status.{code_of};
+ghost use Rattle.outside.specs.declared.status.Status.{Status};
 
+use crate::modes::{Mode, answer, mode_of};
 use crate::player::Player;
-use crate::status::{Status, code_of, status_of};
-use outside::{Plant, Sink, Source, put_all};
+use crate::status::status_of;
+use decode_mode::{decode_log, decode_record, decode_request};
+use model_mode::play_model;
+use outside::{Plant, Sink, Source, Status};
 use std::alloc::Global;
 
 /// How many bytes are read at once.
 const PIECE: usize = 65_536;
-
-fn is_play(words: &[String]) -> bool
-    ensures { IsTrue result ↔ IsPlay words.now }
-{
-    words.len() == 1 && words[0].as_bytes() == b"play".as_slice()
-}
 
 /// Reads all that the input has and plays it.
 fn read_all<I: Source, O: Sink, D: Plant>(
@@ -101,9 +103,9 @@ fn play_first<I: Source, O: Sink, D: Plant>(
     }
 }
 
-/// Does all that the program does, and answers its status: 0 where the scenario was played to its `end`,
-/// 2 where words or a line were refused, 3 for want of memory, 4 and 5 where the input or the output
-/// failed. The only words so far are `play`. There are sixteen disks, and a cluster of one target uses the
+/// Does all that the program does, and answers its status: 0 where the scenario was run to its `end` or what
+/// the words ask for was written, 2 where the words, a line or the bytes were refused, 3 for want of memory, 4
+/// and 5 where the input or the output failed. There are sixteen disks, and a cluster of one target uses the
 /// first of them.
 pub fn dne_main<I: Source, O: Sink, D: Plant>(
     alloc: Global,
@@ -124,21 +126,42 @@ pub fn dne_main<I: Source, O: Sink, D: Plant>(
     ensures complete { IsPlay words.now → (bytes : List ℕ) → I.left input.old ≡ Some bytes → IsScenario bytes
         → ¬ Rose (I.source_faults input.old) (I.source_faults input.new)
         → ¬ Rose (O.sink_faults output.old) (O.sink_faults output.new) → (result ≡ 0) ⊎ (result ≡ 3) }
-    // Other words are refused, and touch no disk.
-    ensures words { ¬ IsPlay words.now →
-        ((result ≡ 2) × Appends (O.written output.old) (O.written output.new) bad_words)
-        ⊎ ((result ≡ 5) × (front : List ℕ) × (rest : List ℕ) × (bad_words ≡ front ++ rest) × Appends (O.written output.old) (O.written output.new) front) }
+    // What was written is the transcript of the plain tree over the bytes that were read.
+    ensures model { IsModel words.now → (status : Status) × (result ≡ code_of status) × (read : List ℕ) × (more : List ℕ)
+        × Consumes (I.left input.old) (I.left input.new) read × Appends (O.written output.old) (O.written output.new) more
+        × RunsPlainly (IsAtEnd (I.left input.new)) status read more }
+    // A scenario in the grammar is run to its end on the plain tree, with the same exceptions.
+    ensures complete_model { IsModel words.now → (bytes : List ℕ) → I.left input.old ≡ Some bytes → IsPlainScenario bytes
+        → ¬ Rose (I.source_faults input.old) (I.source_faults input.new)
+        → ¬ Rose (O.sink_faults output.old) (O.sink_faults output.new) → (result ≡ 0) ⊎ (result ≡ 3) }
+    // What was written is the answer to the bytes that were read, which are to begin with a request or a
+    // record, or to be a log.
+    ensures decode_request { IsDecodeRequest words.now → (status : Status) × (result ≡ code_of status) × (read : List ℕ) × (more : List ℕ)
+        × Consumes (I.left input.old) (I.left input.new) read × Appends (O.written output.old) (O.written output.new) more
+        × AnswersRequest (IsAtEnd (I.left input.new)) status read more }
+    ensures decode_record { IsDecodeRecord words.now → (status : Status) × (result ≡ code_of status) × (read : List ℕ) × (more : List ℕ)
+        × Consumes (I.left input.old) (I.left input.new) read × Appends (O.written output.old) (O.written output.new) more
+        × AnswersRecord (IsAtEnd (I.left input.new)) status read more }
+    ensures decode_log { IsDecodeLog words.now → (status : Status) × (result ≡ code_of status) × (read : List ℕ) × (more : List ℕ)
+        × Consumes (I.left input.old) (I.left input.new) read × Appends (O.written output.old) (O.written output.new) more
+        × AnswersLog (IsAtEnd (I.left input.new)) status read more }
+    // All other words are answered by themselves: a hash, a place, or that they are bad. The input isn't read.
+    ensures answers { IsOther (all_bytes words.now) → (status : Status) × (result ≡ code_of status)
+        × Answers (all_bytes words.now) (O.written output.old) (O.written output.new) status }
+    ensures unread { IsOther (all_bytes words.now) → I.left input.new ≡ I.left input.old }
+    // Only `play` touches a disk.
     ensures untouched { ¬ IsPlay words.now → disks.new.items ≡ disks.old.items }
     ensures source { result ≡ 4 → Rose (I.source_faults input.old) (I.source_faults input.new) }
     ensures sink { result ≡ 5 → Rose (O.sink_faults output.old) (O.sink_faults output.new) }
     // The disks come back in their order.
     ensures disks { map (λ d. (D.shown d).name) disks.new.items ≡ map (λ d. (D.shown d).name) disks.old.items }
 {
-    if !is_play(words) {
-        return match put_all(output, b"words: BadWords\n") {
-            Ok(()) => 2,
-            Err(_) => 5,
-        };
+    match mode_of(words) {
+        Mode::Play => play_first(alloc, input, output, disks).code(),
+        Mode::Model => play_model(alloc, input, output).code(),
+        Mode::DecodeRequest => decode_request(alloc, input, output).code(),
+        Mode::DecodeRecord => decode_record(alloc, input, output).code(),
+        Mode::DecodeLog => decode_log(alloc, input, output).code(),
+        Mode::Query => answer(alloc, words, output).code(),
     }
-    code_of(play_first(alloc, input, output, disks))
 }

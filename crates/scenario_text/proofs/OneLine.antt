@@ -1,8 +1,7 @@
 -- A command's spelling is one line: it has no line feed, and it isn't empty.
-use Rattle.std.proofs.Common.{◌≡◌, ◌≢◌, ◌==◌, ◌<◌, ◌^◌, ℕ, true, Option, List, [], ◌∷◌, codes, inl, inr, refl, sym, ap, ◌∙◌, subst, arith}
+use Rattle.std.proofs.Common.{◌≡◌, ◌≢◌, ◌==◌, ◌<◌, ◌^◌, ℕ, Option, Some, None, List, [], ◌∷◌, codes, inl, inr, refl, sym, ap, ◌∙◌, subst, arith}
 use Rattle.std.specs.List.{slice_split, join_with_byte, AllByRecursion}
 use Rattle.std.specs.Fmt.{decimal}
-use Rattle.std.proofs.lemmas.Bool.{false≢true}
 use Rattle.std.proofs.lemmas.Fmt.{decimal_is_IsNumeral}
 use Rattle.fid_space.specs.declared.fid.Fid.{Fid}
 use Rattle.fid_space.specs.FidText.{fid_text, hex, IsFid}
@@ -10,9 +9,9 @@ use Rattle.fid_space.proofs.Splitting.{Lacks, lacks_by_test, lacks_append, lacks
 use Rattle.fid_space.proofs.FidTexts.{lacks_hex}
 use Rattle.tree_model.specs.OpText.{IsOp, op_words}
 use Rattle.tree_model.specs.declared.op.Op.{Op}
-use Rattle.tree_model.specs.declared.op.Op.TheVariants.{Create}
-use Rattle.tree_model.proofs.Spellings.{name_lacks}
-use Rattle.scenario_text.specs.Spelling.{Entry, Skip, Order, IsCommand, IsEntry, IsSkipped, is_create, line_of, spelling, words_of}
+use Rattle.tree_model.specs.declared.op.Op.TheVariants as ops
+use Rattle.tree_model.proofs.Spellings.{name_lacks, hex_lacks}
+use Rattle.scenario_text.specs.Spelling.{Entry, Skip, Order, IsCommand, IsEntry, IsSkipped, line_of, spelling, words_of}
 use Rattle.scenario_text.specs.declared.command.Command.{Command}
 use Rattle.scenario_text.specs.declared.command.Command.TheVariants as commands
 use Rattle.scenario_text.proofs.OneSpelling.{limits, low_target, cut_words, one_command}
@@ -26,16 +25,29 @@ fid_lacks f h =
 digits_lack : (n : ℕ) → n < 2 ^ 64 → Lacks 10 (decimal n)
 digits_lack n low = lacks_digits 10 10 (omega arith) (decimal n) (decimal_is_IsNumeral n low).0.1
 
-op_lacks : (n : ℕ) (o : Op) → IsOp n o → is_create o ≡ true → AllByRecursion (λ w. Lacks 10 w) (op_words o)
-op_lacks n (Create p x f) h made =
-    (lacks_by_test 10 (codes "create") refl, (fid_lacks p h.0.0, (name_lacks 10 x (omega arith), (fid_lacks f h.2.0, tt))))
-op_lacks n o h made = absurd (false≢true made)
+op_lacks : (n : ℕ) (o : Op) → IsOp n o → AllByRecursion (λ w. Lacks 10 w) (op_words o)
+op_lacks n (ops.Create p x f) h = (lacks_by_test 10 (codes "create") refl, (fid_lacks p h.0.0, (name_lacks 10 x (omega arith), (fid_lacks f h.2.0, tt))))
+op_lacks n (ops.Mkdir p x f None) h = (lacks_by_test 10 (codes "mkdir") refl, (fid_lacks p h.0.0, (name_lacks 10 x (omega arith), (fid_lacks f h.2.0, tt))))
+op_lacks n (ops.Mkdir p x f (Some s)) h =
+    (lacks_by_test 10 (codes "mkdir") refl, (fid_lacks p h.0.0, (name_lacks 10 x (omega arith), (fid_lacks f h.2.0, (digits_lack s.0 (omega (arith, h.3)), (digits_lack s.1 (omega (arith, h.3)), tt))))))
+op_lacks n (ops.Link p x f) h = (lacks_by_test 10 (codes "link") refl, (fid_lacks p h.0.0, (name_lacks 10 x (omega arith), (fid_lacks f h.2.0, tt))))
+op_lacks n (ops.Unlink p x) h = (lacks_by_test 10 (codes "unlink") refl, (fid_lacks p h.0.0, (name_lacks 10 x (omega arith), tt)))
+op_lacks n (ops.Rmdir p x) h = (lacks_by_test 10 (codes "rmdir") refl, (fid_lacks p h.0.0, (name_lacks 10 x (omega arith), tt)))
+op_lacks n (ops.Rename p x q y) h = (lacks_by_test 10 (codes "rename") refl, (fid_lacks p h.0.0, (name_lacks 10 x (omega arith), (fid_lacks q h.2.0, (name_lacks 10 y (omega arith), tt)))))
+op_lacks n (ops.SetAttr f m u g) h =
+    (lacks_by_test 10 (codes "setattr") refl, (fid_lacks f h.0.0, (digits_lack m (omega (arith, h.1)), (digits_lack u (omega (arith, h.2)), (digits_lack g (omega (arith, h.3)), tt)))))
+op_lacks n (ops.SetXattr f x v) h = (lacks_by_test 10 (codes "setxattr") refl, (fid_lacks f h.0.0, (name_lacks 10 x (omega arith), (hex_lacks 10 v (omega arith), tt))))
+op_lacks n (ops.DelXattr f x) h = (lacks_by_test 10 (codes "delxattr") refl, (fid_lacks f h.0.0, (name_lacks 10 x (omega arith), tt)))
+op_lacks n (ops.Migrate d c i) h = (lacks_by_test 10 (codes "migrate") refl, (fid_lacks d h.0.0, (digits_lack c (omega (arith, h.1)), (digits_lack i (omega (arith, h.2)), tt))))
+op_lacks n (ops.Lookup p x) h = (lacks_by_test 10 (codes "lookup") refl, (fid_lacks p h.0.0, (name_lacks 10 x (omega arith), tt)))
+op_lacks n (ops.GetAttr f) h = (lacks_by_test 10 (codes "getattr") refl, (fid_lacks f h.0, tt))
+op_lacks n (ops.GetXattr f x) h = (lacks_by_test 10 (codes "getxattr") refl, (fid_lacks f h.0.0, (name_lacks 10 x (omega arith), tt)))
 
 words_lack : (a : Option ℕ) (c : Command) → IsCommand a c → AllByRecursion (λ w. Lacks 10 w) (words_of c)
-words_lack a (commands.Cluster n) h = (lacks_by_test 10 (codes "cluster") refl, (digits_lack n (omega (arith, h)), tt))
+words_lack a (commands.Cluster n) h = (lacks_by_test 10 (codes "cluster") refl, (digits_lack n (omega (arith, h.1)), tt))
 words_lack a (commands.Send r) h =
     let l = limits a r h in
-    (lacks_by_test 10 (codes "send") refl, (digits_lack r.number (omega (arith, l.2)), (digits_lack r.client (omega (arith, l.3)), op_lacks l.0 r.op l.4 l.5)))
+    (lacks_by_test 10 (codes "send") refl, (digits_lack r.number (omega (arith, l.2)), (digits_lack r.client (omega (arith, l.3)), op_lacks l.0 r.op l.4)))
 words_lack a commands.Settle h = (lacks_by_test 10 (codes "settle") refl, tt)
 words_lack a commands.Tree h = (lacks_by_test 10 (codes "tree") refl, tt)
 words_lack a commands.End h = (lacks_by_test 10 (codes "end") refl, tt)

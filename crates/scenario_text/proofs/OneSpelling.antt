@@ -1,5 +1,5 @@
 -- No two commands have one spelling.
-use Rattle.std.proofs.Common.{◌≡◌, ◌==◌, ◌<◌, ◌≤◌, ◌^◌, ◌+◌, ◌*◌, ℕ, true, Option, Some, None, List, [], ◌∷◌, length, codes, refl, sym, ap, ◌∙◌, arith}
+use Rattle.std.proofs.Common.{◌≡◌, ◌==◌, ◌<◌, ◌≤◌, ◌^◌, ◌+◌, ◌*◌, ℕ, Option, Some, None, List, [], ◌∷◌, length, codes, refl, sym, ap, ◌∙◌, arith}
 use Rattle.std.specs.List.{slice_split, AllByRecursion}
 use Rattle.std.specs.Fmt.{decimal}
 use Rattle.std.proofs.lemmas.Fmt.{decimal_is_IsNumeral, decimal_injective}
@@ -8,14 +8,14 @@ use Rattle.tree_model.specs.OpText.{op_words, IsOp}
 use Rattle.tree_model.specs.declared.op.Request.{Request}
 use Rattle.tree_model.proofs.OpTexts.{op_lacks}
 use Rattle.tree_model.proofs.OneOp.{op_injective}
-use Rattle.scenario_text.specs.Spelling.{IsCommand, IsRequest, IsTarget, is_create, spelling, words_of}
+use Rattle.scenario_text.specs.Spelling.{IsCommand, IsRequest, IsTarget, spelling, words_of}
 use Rattle.scenario_text.specs.declared.command.Command.{Command}
 use Rattle.scenario_text.specs.declared.command.Command.TheVariants as commands
 
 -- the request's limits, in whichever cluster it is read
-pub limits : (cluster : Option ℕ) (r : Request) → IsRequest cluster r → (n : ℕ) × (1 ≤ r.number) × (r.number ≤ 65536) × (r.client < 64) × IsOp n r.op × (is_create r.op ≡ true)
+pub limits : (cluster : Option ℕ) (r : Request) → IsRequest cluster r → (n : ℕ) × (1 ≤ r.number) × (r.number ≤ 65536) × (r.client < 64) × IsOp n r.op
 limits None r h = absurd h
-limits (Some n) r h = (n, h.0, h.1, h.2, h.3, h.4)
+limits (Some n) r h = (n, h.0, h.1, h.2, h.3)
 
 digits_lack : (n : ℕ) → n < 2 ^ 64 → Lacks 32 (decimal n)
 digits_lack n low = lacks_digits 10 32 (omega arith) (decimal n) (decimal_is_IsNumeral n low).0.1
@@ -26,7 +26,7 @@ low_target None t h = absurd h
 low_target (Some n) t h = omega (arith, h.1)
 
 words_lack : (a : Option ℕ) (c : Command) → IsCommand a c → AllByRecursion (λ w. Lacks 32 w) (words_of c)
-words_lack a (commands.Cluster n) h = (lacks_by_test 32 (codes "cluster") refl, (digits_lack n (omega (arith, h)), tt))
+words_lack a (commands.Cluster n) h = (lacks_by_test 32 (codes "cluster") refl, (digits_lack n (omega (arith, h.1)), tt))
 words_lack a (commands.Send r) h =
     let l = limits a r h in
     (lacks_by_test 32 (codes "send") refl, (digits_lack r.number (omega (arith, l.2)), (digits_lack r.client (omega (arith, l.3)), op_lacks l.0 r.op l.4)))
@@ -72,7 +72,9 @@ words_injective a b (commands.Send r) (commands.Send s) h k e =
     let client = decimal_injective r.client s.client (omega (arith, l.3)) (omega (arith, m.3)) clients in
     let op = op_injective l.0 m.0 r.op s.op l.4 m.4 ops in
     λ i. commands.Send (record { number = number i; client = client i; op = op i })
-words_injective a b (commands.Cluster m) (commands.Cluster n) h k e = ap commands.Cluster (h ∙ sym k)
+words_injective a b (commands.Cluster m) (commands.Cluster n) h k e = (
+    let word : decimal m ≡ decimal n = cc in
+    ap commands.Cluster (decimal_injective m n (omega (arith, h.1)) (omega (arith, k.1)) word))
 words_injective a b commands.Settle commands.Settle h k e = refl
 words_injective a b commands.Tree commands.Tree h k e = refl
 words_injective a b commands.End commands.End h k e = refl

@@ -167,14 +167,14 @@ on_home : 1 ≡ participants 1 create replies.Ok
 on_home = refl
 
 cluster_turn : Turn (start true) cluster_group made
-cluster_turn = ((refl, refl), inl refl, refl)
+cluster_turn = (((omega arith, omega arith), refl, refl), inl refl, refl)
 
 send_turn : Turn made send_group sent
-send_turn = (((omega arith, omega arith, omega arith, (root_placed, name_fits, file_placed), refl), ((refl, refl), refl)), refl, refl)
+send_turn = (((omega arith, omega arith, omega arith, (root_placed, name_fits, file_placed)), ((refl, refl), refl), refl), refl, refl)
 
 settle_turn : Turn sent settle_group settled
 settle_turn = (
-  (tt, (refl, refl)),
+  (tt, (refl, refl), tt),
   (tt, (tt, tt)),
   (
     settled,
@@ -197,11 +197,11 @@ now_formatted s is = ap (λ x. s.formatted || serves x) is ∙ or_true s.formatt
     or_true false = refl
 
 tree_turn : (s : State) → IsSome s.asked.cluster → s.asked.ended ≡ false → s.standing ≡ Serving → Turn s (tree_group s) (shown s)
-tree_turn s some going is = ((tt, (some, going)), tree_lines s is, (shown s, (refl, sym (λ i. record s { formatted = now_formatted s is i })), refl))
+tree_turn s some going is = ((tt, (some, going), tt), tree_lines s is, (shown s, (refl, sym (λ i. record s { formatted = now_formatted s is i })), refl))
 
 end_turn : (s : State) → IsSome s.asked.cluster → s.asked.ended ≡ false → s.standing ≡ Serving → Turn s (end_group s) (end_of s)
 end_turn s some going is =
-    ((tt, (some, going)), end_lines s is, (stable_of s, (is, refl, (λ i. record (stable_of s) { formatted = sym (now_formatted s is) i })), (end_of s, (is, refl), refl)))
+    ((tt, (some, going), tt), end_lines s is, (stable_of s, (is, refl, (λ i. record (stable_of s) { formatted = sym (now_formatted s is) i })), (end_of s, (is, refl), refl)))
 
 abbrev first_groups : List Group
 first_groups = cluster_group ∷ send_group ∷ settle_group ∷ tree_group settled ∷ end_group settled ∷ []

@@ -1,4 +1,5 @@
 pub mod Spelling
 pub mod Machine
 pub mod LineText
+pub mod Refusals
 pub mod Worked

@@ -9,7 +9,7 @@ use Rattle.tree_model.specs.History.{Item, tree_of}
 use Rattle.tree_model.specs.Participants.{home_of, participants}
 use Rattle.tree_model.specs.declared.op.Request.{Request}
 use Rattle.tree_model.specs.declared.reply.Reply.{Reply}
-use Rattle.scenario_text.specs.Spelling.{Entry, Skip, Order, IsEntry, line_of}
+use Rattle.scenario_text.specs.Spelling.{Entry, Skip, Order, IsEntry, IsPlayedEntry, line_of}
 use Rattle.scenario_text.specs.LineText.{texts}
 use Rattle.scenario_text.specs.declared.command.Command.{Command}
 use Rattle.scenario_text.specs.declared.command.Command.TheVariants as commands
@@ -71,10 +71,19 @@ abbrev pub MayStand : Option ℕ → Bool → (ℕ → Bool) → Entry → Type 
 MayStand cluster ended used (Skip line) = ended ≡ false
 MayStand cluster ended used (Order c) = MayCome cluster ended used c
 
-abbrev pub IsTaken : Asked → Entry → Type 0
-IsTaken a e = IsEntry a.cluster e × MayStand a.cluster a.ended (is_sent a.sent) e
+-- what a scenario may have on its next line
+abbrev pub IsNext : Asked → Entry → Type 0
+IsNext a e = IsEntry a.cluster e × MayStand a.cluster a.ended (is_sent a.sent) e
 
--- what may stand on one line after another
+-- what may stand on one line of a scenario after another
+abbrev pub AreNext : Asked → List Entry → Type 0
+AreNext a [] = Unit {0}
+AreNext a (e ∷ es) = IsNext a e × AreNext (asked_after a e) es
+
+-- what the machine takes of it
+abbrev pub IsTaken : Asked → Entry → Type 0
+IsTaken a e = IsEntry a.cluster e × MayStand a.cluster a.ended (is_sent a.sent) e × IsPlayedEntry e
+
 abbrev pub AreTaken : Asked → List Entry → Type 0
 AreTaken a [] = Unit {0}
 AreTaken a (e ∷ es) = IsTaken a e × AreTaken (asked_after a e) es
@@ -83,7 +92,7 @@ abbrev pub asked_all : Asked → List Entry → Asked
 asked_all a [] = a
 asked_all a (e ∷ es) = asked_all (asked_after a e) es
 
--- nothing that may stand on the next line is spelled so
+-- nothing that the machine takes on the next line is spelled so
 abbrev pub IsRefused : Asked → List ℕ → Type 0
 IsRefused a line = (e : Entry) → IsTaken a e → line ≢ line_of e
 

@@ -23,15 +23,10 @@ words_of (commands.Fuse target after choice) = codes "fuse" ∷ decimal target �
 abbrev pub spelling : Command → List ℕ
 spelling c = join_with_byte 32 (words_of c)
 
--- the operation that is played so far
-abbrev pub is_create : Op → Bool
-is_create (ops.Create parent name fid) = true
-is_create _ = false
-
 -- a request that can be sent to a cluster
 abbrev pub IsRequest : Option ℕ → Request → Type 0
 IsRequest None r = ⊥
-IsRequest (Some targets) r = (1 ≤ r.number) × (r.number ≤ 65536) × (r.client < 64) × IsOp targets r.op × (is_create r.op ≡ true)
+IsRequest (Some targets) r = (1 ≤ r.number) × (r.number ≤ 65536) × (r.client < 64) × IsOp targets r.op
 
 -- a target of the cluster
 abbrev pub IsTarget : Option ℕ → ℕ → Type 0
@@ -40,7 +35,7 @@ IsTarget (Some targets) target = (target < targets) × (target < 16)
 
 -- what has a spelling, where this cluster was made
 abbrev pub IsCommand : Option ℕ → Command → Type 0
-IsCommand cluster (commands.Cluster targets) = targets ≡ 1
+IsCommand cluster (commands.Cluster targets) = (1 ≤ targets) × (targets ≤ 16)
 IsCommand cluster (commands.Send r) = IsRequest cluster r
 IsCommand cluster commands.Settle = Unit {0}
 IsCommand cluster commands.Tree = Unit {0}
@@ -70,3 +65,25 @@ NoFeed line = AllByRecursion (λ b. b ≢ 10) line
 abbrev pub IsEntry : Option ℕ → Entry → Type 0
 IsEntry cluster (Skip line) = IsSkipped line × NoFeed line
 IsEntry cluster (Order c) = IsCommand cluster c
+
+-- PLAYED SO FAR
+
+abbrev pub is_create : Op → Bool
+is_create (ops.Create parent name fid) = true
+is_create _ = false
+
+-- what is played so far, of the commands that have a spelling: one target, and creates
+abbrev pub IsPlayed : Command → Type 0
+IsPlayed (commands.Cluster targets) = targets ≡ 1
+IsPlayed (commands.Send r) = is_create r.op ≡ true
+IsPlayed commands.Settle = Unit {0}
+IsPlayed commands.Tree = Unit {0}
+IsPlayed commands.End = Unit {0}
+IsPlayed (commands.Commit target) = Unit {0}
+IsPlayed (commands.Crash target) = Unit {0}
+IsPlayed (commands.Restart target) = Unit {0}
+IsPlayed (commands.Fuse target after choice) = Unit {0}
+
+abbrev pub IsPlayedEntry : Entry → Type 0
+IsPlayedEntry (Skip line) = Unit {0}
+IsPlayedEntry (Order c) = IsPlayed c

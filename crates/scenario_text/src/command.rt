@@ -1,6 +1,6 @@
-ghost use Rattle.std.specs.Prelude.{◌≡◌, ◌≢◌, ◌≤◌, ◌∷◌, [], ℕ, true, codes, map, IfOk};
+ghost use Rattle.std.specs.Prelude.{◌≡◌, ◌≢◌, ◌≤◌, ◌∷◌, ◌↔◌, [], ℕ, IsTrue, codes, map, IfOk};
 ghost use Rattle.std.specs.Fmt.{decimal};
-ghost use Rattle.scenario_text.specs.Spelling.{IsCommand, IsTarget, spelling, words_of, is_create};
+ghost use Rattle.scenario_text.specs.Spelling.{IsCommand, IsPlayed, IsTarget, spelling, words_of, is_create};
 ghost use Rattle.tree_model.specs.OpText.{IsOp, op_words};
 ghost use Rattle.tree_model.specs.declared.op.Op.{Op};
 
@@ -54,6 +54,33 @@ impl Command {
         };
         of_words(alloc, words.as_slice(), cluster)
     }
+
+    /// Whether it is one of the commands that are played so far: a cluster of one target, creates, and
+    /// all that isn't a request.
+    pub fn is_played(&self) -> bool
+        ensures { IsTrue result ↔ IsPlayed self.now }
+    {
+        match self {
+            Command::Cluster(cluster) => cluster.targets() == 1,
+            Command::Send(request) => is_create(&request.op),
+            Command::Settle => true,
+            Command::Tree => true,
+            Command::End => true,
+            Command::Commit(_) => true,
+            Command::Crash(_) => true,
+            Command::Restart(_) => true,
+            Command::Fuse { .. } => true,
+        }
+    }
+}
+
+fn is_create(op: &Op) -> bool
+    ensures { result ≡ is_create op.now }
+{
+    match op {
+        Op::Create { .. } => true,
+        _ => false,
+    }
 }
 
 /// Reads the words of a line.
@@ -98,7 +125,7 @@ fn of_two(
     ensures refused { result ≡ Err TextFault.NotYet → (c : _) → IsCommand cluster c → first.now ∷ second.now ∷ [] ≢ words_of c }
 {
     if first == b"cluster".as_slice() {
-        return of_cluster(alloc, second, cluster);
+        return Ok(Command::Cluster(cluster_in(alloc, second)?));
     }
     if first == b"commit".as_slice() {
         return Ok(Command::Commit(target_in(alloc, second, cluster)?));
@@ -110,25 +137,6 @@ fn of_two(
         return Ok(Command::Restart(target_in(alloc, second, cluster)?));
     }
     Err(TextFault::NotYet)
-}
-
-fn of_cluster(alloc: Global, second: &[u8], cluster: Option<Cluster>) -> Result<Command, TextFault>
-    ensures ok { IfOk result (λ c. IsCommand cluster c × (codes "cluster" ∷ second.now ∷ [] ≡ words_of c)) }
-    ensures refused { result ≡ Err TextFault.NotYet → (c : _) → IsCommand cluster c → codes "cluster" ∷ second.now ∷ [] ≢ words_of c }
-{
-    let _ = cluster;
-    let targets = match number(alloc, second) {
-        Ok(Some(targets)) => targets,
-        Ok(None) => return Err(TextFault::NotYet),
-        Err(_) => return Err(TextFault::Memory),
-    };
-    if targets != 1 {
-        return Err(TextFault::NotYet);
-    }
-    match Cluster::new(1) {
-        Some(cluster) => Ok(Command::Cluster(cluster)),
-        None => Err(TextFault::NotYet),
-    }
 }
 
 /// Reads three words or more.
@@ -212,7 +220,7 @@ fn of_send(
     };
     let number = number_in(alloc, number_word, 1, 65_536)?;
     let client = number_in(alloc, client_word, 0, 63)?;
-    let op = created(alloc, op_words, cluster)?;
+    let op = op_in(alloc, op_words, cluster)?;
     Ok(Command::Send(Request {
         number,
         client: client as u8,
@@ -220,28 +228,15 @@ fn of_send(
     }))
 }
 
-/// Reads a create, which is the only operation that is played so far.
-fn created(alloc: Global, words: &[&[u8]], cluster: Cluster) -> Result<Op, TextFault>
-    ensures ok { IfOk result (λ op. IsOp cluster op × (is_create op ≡ true) × (map (λ w. w.now) words.now ≡ op_words op)) }
-    ensures refused { result ≡ Err TextFault.NotYet → (op : Op) → IsOp cluster op → is_create op ≡ true → map (λ w. w.now) words.now ≢ op_words op }
+/// Reads an operation.
+fn op_in(alloc: Global, words: &[&[u8]], cluster: Cluster) -> Result<Op, TextFault>
+    ensures ok { IfOk result (λ op. IsOp cluster op × (map (λ w. w.now) words.now ≡ op_words op)) }
+    ensures refused { result ≡ Err TextFault.NotYet → (op : Op) → IsOp cluster op → map (λ w. w.now) words.now ≢ op_words op }
 {
-    let op = match Op::from_words(alloc, words, cluster) {
-        Ok(op) => op,
-        Err(OpFault::Memory) => return Err(TextFault::Memory),
-        Err(_) => return Err(TextFault::NotYet),
-    };
-    if !is_create(&op) {
-        return Err(TextFault::NotYet);
-    }
-    Ok(op)
-}
-
-fn is_create(op: &Op) -> bool
-    ensures { result ≡ is_create op.now }
-{
-    match op {
-        Op::Create { .. } => true,
-        _ => false,
+    match Op::from_words(alloc, words, cluster) {
+        Ok(op) => Ok(op),
+        Err(OpFault::Memory) => Err(TextFault::Memory),
+        Err(_) => Err(TextFault::NotYet),
     }
 }
 
@@ -275,4 +270,16 @@ fn target_in(alloc: Global, word: &[u8], cluster: Option<Cluster>) -> Result<u8,
     };
     let target = number_in(alloc, word, 0, u32::from(cluster.targets() - 1))?;
     Ok(target as u8)
+}
+
+/// Reads how many targets a cluster has.
+fn cluster_in(alloc: Global, word: &[u8]) -> Result<Cluster, TextFault>
+    ensures ok { IfOk result (λ n. (1 ≤ n) × (n ≤ 16) × (word.now ≡ decimal n)) }
+    ensures refused { result ≡ Err TextFault.NotYet → (n : ℕ) → 1 ≤ n → n ≤ 16 → word.now ≢ decimal n }
+{
+    let targets = number_in(alloc, word, 1, 16)?;
+    match Cluster::new(targets as u8) {
+        Some(cluster) => Ok(cluster),
+        None => unreachable!(),
+    }
 }

@@ -11,6 +11,7 @@ mod command;
 mod laws;
 mod line;
 mod list;
+mod refusal;
 mod transcripts;
 
 pub use command::{Command, TextFault};
@@ -23,6 +24,7 @@ pub use line::{
     print_end_unclean, print_recovering, print_reply, print_stable, print_stale, print_state,
     print_tree_state, print_up,
 };
+pub use refusal::{is_full, is_skipped, print_no_end, print_refusal};
 pub use transcripts::{empty_transcript, first_transcript};
 
 #[cfg(test)]

@@ -101,7 +101,7 @@ fn reads_commands(rt: HostRuntime) {
         (
             "send 1 0 mkdir [0x200000007:0x1:0x0] a [0x200000400:0x1:0x0]",
             true,
-            "NotYet",
+            "send",
         ),
         (
             "send  1 0 create [0x200000007:0x1:0x0] a [0x200000400:0x1:0x0]",
@@ -113,7 +113,7 @@ fn reads_commands(rt: HostRuntime) {
         (" ", true, "NotYet"),
         ("# x", true, "NotYet"),
         ("cluster", false, "NotYet"),
-        ("cluster 2", false, "NotYet"),
+        ("cluster 2", false, "cluster"),
         ("cluster 01", false, "NotYet"),
         ("cluster  1", false, "NotYet"),
         ("cluster\t1", false, "NotYet"),
@@ -149,6 +149,97 @@ fn reads_commands(rt: HostRuntime) {
         let read = Command::parse(rt.alloc(), line.as_bytes(), cluster);
         assert_eq!(rt; kind(&read), want, "{line}");
     }
+}
+
+#[test]
+fn reads_every_operation(rt: HostRuntime) -> Result<(), Fail> {
+    let rows: [(&str, &str); 15] = [
+        (
+            "mkdir [0x200000007:0x1:0x0] a [0x200000400:0x1:0x0] 2 1",
+            "send",
+        ),
+        ("link [0x200000007:0x1:0x0] a [0x200000400:0x1:0x0]", "send"),
+        ("unlink [0x200000007:0x1:0x0] a", "send"),
+        ("rmdir [0x200000007:0x1:0x0] a", "send"),
+        (
+            "rename [0x200000007:0x1:0x0] a [0x200000007:0x1:0x0] b",
+            "send",
+        ),
+        ("setattr [0x200000007:0x1:0x0] 4095 0 4294967295", "send"),
+        ("setxattr [0x200000007:0x1:0x0] a -", "send"),
+        ("delxattr [0x200000007:0x1:0x0] a", "send"),
+        ("migrate [0x200000007:0x1:0x0] 1 0", "send"),
+        ("lookup [0x200000007:0x1:0x0] a", "send"),
+        ("getattr [0x200000007:0x1:0x0]", "send"),
+        ("getxattr [0x200000007:0x1:0x0] a", "send"),
+        ("setattr [0x200000007:0x1:0x0] 4096 0 0", "NotYet"),
+        ("mknod [0x200000007:0x1:0x0] a", "NotYet"),
+        ("getattr", "NotYet"),
+    ];
+    for (op, want) in rows {
+        let line = format!(in rt.alloc(); "send 1 0 {op}")?;
+        let read = Command::parse(rt.alloc(), line.as_bytes(), Cluster::new(1));
+        assert_eq!(rt; kind(&read), want, "{op}");
+    }
+    Ok(())
+}
+
+#[test]
+fn reads_clusters(rt: HostRuntime) {
+    let rows: [(&str, &str, bool); 6] = [
+        ("cluster 1", "cluster", true),
+        ("cluster 2", "cluster", false),
+        ("cluster 16", "cluster", false),
+        ("cluster 0", "NotYet", false),
+        ("cluster 17", "NotYet", false),
+        ("cluster 4294967296", "NotYet", false),
+    ];
+    for (line, want, played) in rows {
+        let read = Command::parse(rt.alloc(), line.as_bytes(), None);
+        assert_eq!(rt; kind(&read), want, "{line}");
+        let is = match &read {
+            Ok(command) => command.is_played(),
+            Err(_) => false,
+        };
+        assert_eq!(rt; is, played, "{line}");
+    }
+}
+
+#[test]
+fn reads_the_places_of_the_last_target(rt: HostRuntime) {
+    let rows: [(&str, u8, &str); 4] = [
+        ("commit 15", 16, "commit"),
+        ("commit 15", 15, "NotYet"),
+        ("send 1 0 getattr [0x200f00400:0x1:0x0]", 16, "send"),
+        ("send 1 0 getattr [0x200f00400:0x1:0x0]", 15, "NotYet"),
+    ];
+    for (line, targets, want) in rows {
+        let read = Command::parse(rt.alloc(), line.as_bytes(), Cluster::new(targets));
+        assert_eq!(rt; kind(&read), want, "{line}");
+    }
+}
+
+#[test]
+fn tells_skipped_lines_and_limits(rt: HostRuntime) -> Result<(), Fail> {
+    let mut long = Bytes::new(rt.alloc());
+    for _count in 0..16_383u32 {
+        long.push(b'a')?;
+    }
+    assert!(rt; is_skipped(b"") && is_skipped(b"# x") && !is_skipped(b" # x"));
+    assert!(rt; !is_full(999_999, 67_108_863, long.bytes(), b'a'));
+    long.push(b'a')?;
+    assert!(rt; !is_full(0, 0, long.bytes(), b'\n'));
+    assert!(rt; is_full(0, 0, long.bytes(), b'a'));
+    assert!(rt; is_full(1_000_000, 0, b"", b'a'));
+    assert!(rt; is_full(0, 67_108_864, b"", b'a'));
+    let mut out = Bytes::new(rt.alloc());
+    print_refusal(7, &mut out)?;
+    print_no_end(1_000_001, &mut out)?;
+    assert_eq!(rt;
+        out.bytes(),
+        b"line 7: NotYet\nline 1000001: NoEnd\n".as_slice()
+    );
+    Ok(())
 }
 
 #[test]

@@ -1,7 +1,7 @@
 use Rattle.std.proofs.Common.{◌≡◌, ◌++◌, ℕ, List, take, drop, sym, ap, ◌∙◌, subst}
 use Rattle.std.specs.Io.KnownBytes.{Appends}
 use Rattle.std.proofs.lemmas.List.{take-append-drop}
-use Rattle.dne_cli.specs.Transcript.{no_end}
+use Rattle.scenario_text.specs.Refusals.{no_end}
 use Rattle.dne_cli.proofs.player.lack_end.Goals as goal
 
 pub returns-clause-told : goal.returns-clause-told

@@ -1,0 +1,209 @@
+use crate::{dne_main, memory_disks};
+use llog_store::Llog;
+use outside::{TextSink, TextSource};
+use std::alloc::Global;
+use std::test::Fail;
+
+/// Runs the program with these words, parted by spaces, over a text; the calls with the listed numbers fail.
+fn run(
+    alloc: Global,
+    line: &str,
+    text: &[u8],
+    bad_reads: &[u64],
+    bad_writes: &[u64],
+) -> Result<(u8, TextSink), Fail> {
+    let mut words = Vec::new(alloc);
+    for word in line.split(' ') {
+        words.push(String::from_str(alloc, word)?)?;
+    }
+    let mut disks = memory_disks(alloc)?;
+    let mut input = TextSource::new(alloc, text, bad_reads)?;
+    let mut output = TextSink::new(alloc, bad_writes)?;
+    let status = dne_main(alloc, words.as_slice(), &mut input, &mut output, &mut disks);
+    Ok((status, output))
+}
+
+#[test]
+fn hashes_of_names(rt: HostRuntime) -> Result<(), Fail> {
+    let rows = [
+        ("hash a", "af63dc4c8601ec8c\n"),
+        ("hash b", "af63df4c8601f1a5\n"),
+        ("hash c", "af63de4c8601eff2\n"),
+        ("hash d", "af63d94c8601e773\n"),
+        ("hash foobar", "85944171f73967e8\n"),
+    ];
+    for (line, want) in rows {
+        let (status, output) = run(rt.alloc(), line, b"", &[1], &[])?;
+        assert_eq!(rt; status, 0, "{line}");
+        assert_eq!(rt; output.bytes(), want.as_bytes(), "{line}");
+    }
+    Ok(())
+}
+
+#[test]
+fn homes_of_fids(rt: HostRuntime) -> Result<(), Fail> {
+    let rows = [
+        ("fid 2 [0x200180400:0x1:0x2]", "target 1 stripe\n", 0),
+        ("fid 1 [0x200180400:0x1:0x2]", "no home\n", 2),
+        ("fid 1 [0x200000007:0x1:0x0]", "target 0 root\n", 0),
+        ("fid 16 [0x200f003ff:0x1:0x0]", "target 14 stripe\n", 0),
+        ("fid 16 [0x200f00400:0x1:0x0]", "target 15 client\n", 0),
+        ("fid 16 [0x2010003ff:0x1:0x0]", "target 15 stripe\n", 0),
+        ("fid 16 [0x201000400:0x1:0x0]", "no home\n", 2),
+        ("fid 1 [0x2000083ff:0x1:0x0]", "target 0 client\n", 0),
+        ("fid 1 [0x200008400:0x1:0x0]", "target 0 other\n", 0),
+        ("fid 1 [0x2000803ff:0x1:0x0]", "target 0 other\n", 0),
+        ("fid 1 [0x200080400:0x1:0x0]", "target 0 stripe\n", 0),
+        ("fid 1 [0x200000400:0x0:0x0]", "target 0 other\n", 0),
+        ("fid 1 [0x2000003ff:0x1:0x0]", "no home\n", 2),
+    ];
+    for (line, want, code) in rows {
+        let (status, output) = run(rt.alloc(), line, b"", &[1], &[])?;
+        assert_eq!(rt; status, code, "{line}");
+        assert_eq!(rt; output.bytes(), want.as_bytes(), "{line}");
+    }
+    Ok(())
+}
+
+#[test]
+fn bad_words(rt: HostRuntime) -> Result<(), Fail> {
+    let rows = [
+        "",
+        "plays",
+        "play play",
+        "model a",
+        "decode",
+        "decode requests",
+        "hash",
+        "hash a b",
+        "hash .",
+        "hash a/b",
+        "hash %61",
+        "hash -a",
+        "-hash a",
+    ];
+    for line in rows {
+        let (status, output) = run(rt.alloc(), line, b"", &[1], &[])?;
+        assert_eq!(rt; status, 2, "{line}");
+        assert_eq!(rt; output.bytes(), b"words: BadWords\n".as_slice(), "{line}");
+    }
+    Ok(())
+}
+
+#[test]
+fn bad_words_of_a_fid(rt: HostRuntime) -> Result<(), Fail> {
+    let rows = [
+        "fid",
+        "fid 1",
+        "fid 0 [0x200000007:0x1:0x0]",
+        "fid 17 [0x200000007:0x1:0x0]",
+        "fid 01 [0x200000007:0x1:0x0]",
+        "fid -1 [0x200000007:0x1:0x0]",
+        "fid x [0x200000007:0x1:0x0]",
+        "fid 4294967297 [0x200000007:0x1:0x0]",
+        "fid 1 [0x200000007:0x01:0x0]",
+        "fid 1 0x200000007:0x1:0x0",
+        "fid 1 [0x200000007:0x1:0x0] x",
+        "Fid 1 [0x200000007:0x1:0x0]",
+    ];
+    for line in rows {
+        let (status, output) = run(rt.alloc(), line, b"", &[1], &[])?;
+        assert_eq!(rt; status, 2, "{line}");
+        assert_eq!(rt; output.bytes(), b"words: BadWords\n".as_slice(), "{line}");
+    }
+    Ok(())
+}
+
+#[test]
+fn decodes_requests(rt: HostRuntime) -> Result<(), Fail> {
+    let bytes = [0x01, 0x00, 0xde, 0xbd, 0x00, 0x00, 0x00, 0x00, 0xff];
+    let rows = [
+        (8, "request 0\nrest 0\n", 0),
+        (9, "request 0\nrest 1\n", 0),
+        (7, "place 7: Truncated\n", 2),
+        (0, "place 0: Truncated\n", 2),
+    ];
+    for (len, want, code) in rows {
+        let (status, output) = run(rt.alloc(), "decode request", &bytes[..len], &[], &[])?;
+        assert_eq!(rt; status, code, "{len}");
+        assert_eq!(rt; output.bytes(), want.as_bytes(), "{len}");
+    }
+    Ok(())
+}
+
+/// A record of one part, an empty request on target 0.
+const RECORD: [u8; 64] = [
+    0x55, 0x50, 0x44, 0x31, 1, 0, 0, 0, 0, 0, 0, 0, 5, 0, 0, 0, 7, 0, 0, 0, 0, 0, 0, 0, 9, 0, 0, 0,
+    0, 0, 0, 0, 3, 0, 0, 0, 0, 0, 0, 0, 1, 0, 0, 0, 0, 0, 0, 0, 0, 0, 0, 0, 8, 0, 0, 0, 0x01, 0x00,
+    0xde, 0xbd, 0, 0, 0, 0,
+];
+
+#[test]
+fn decodes_records(rt: HostRuntime) -> Result<(), Fail> {
+    let whole = "record 1.0.7 number 5 client 3 stamp 9 reply OK\npart 0\nrequest 0\nrest 0\n";
+    let rows = [
+        (64, whole, 0),
+        (63, "place 63: Truncated\n", 2),
+        (0, "place 0: Truncated\n", 2),
+    ];
+    for (len, want, code) in rows {
+        let (status, output) = run(rt.alloc(), "decode record", &RECORD[..len], &[], &[])?;
+        assert_eq!(rt; status, code, "{len}");
+        assert_eq!(rt; output.bytes(), want.as_bytes(), "{len}");
+    }
+    Ok(())
+}
+
+#[test]
+fn decodes_logs(rt: HostRuntime) -> Result<(), Fail> {
+    let alloc = rt.alloc();
+    let mut log = Llog::new(alloc)?;
+    for payload in [b"a".as_slice(), b"bc".as_slice(), b"".as_slice()] {
+        if log.append(payload).is_err() {
+            return Err("a record".into());
+        }
+    }
+    if log.cancel(2).is_err() {
+        return Err("a live record".into());
+    }
+    let (status, output) = run(alloc, "decode log", log.bytes(), &[], &[])?;
+    assert_eq!(rt; status, 0);
+    let want =
+        "log next 4 live 2\nindex 1 live length 1\nindex 2 cancelled length 2\nindex 3 live length 0\nrest 0\n";
+    assert_eq!(rt; output.bytes(), want.as_bytes());
+    let (status, output) = run(alloc, "decode log", b"", &[], &[])?;
+    assert_eq!(rt; status, 2);
+    assert_eq!(rt; output.bytes(), b"place 0: Truncated\n".as_slice());
+    Ok(())
+}
+
+#[test]
+fn runs_on_the_plain_tree(rt: HostRuntime) -> Result<(), Fail> {
+    let text =
+        "cluster 1\nsend 1 0 create [0x200000007:0x1:0x0] a [0x200000400:0x1:0x0]\nsettle\ntree\nend\n";
+    let want =
+        "reply 1 OK\ntree 2 1\nnode [0x200000007:0x1:0x0] dir 0755 0 0 2\nnode [0x200000400:0x1:0x0] file 0644 0 0 1\nentry [0x200000007:0x1:0x0] a [0x200000400:0x1:0x0]\nend\n";
+    let (status, output) = run(rt.alloc(), "model", text.as_bytes(), &[], &[])?;
+    assert_eq!(rt; status, 0);
+    assert_eq!(rt; output.bytes(), want.as_bytes());
+    Ok(())
+}
+
+#[test]
+fn failing_input_and_output_of_other_words(rt: HostRuntime) -> Result<(), Fail> {
+    let rows: [(&str, &[u64], &[u64], u8); 7] = [
+        ("model", &[1], &[], 4),
+        ("decode request", &[1], &[], 4),
+        ("decode record", &[1], &[], 4),
+        ("decode log", &[1], &[], 4),
+        ("decode request", &[], &[1], 5),
+        ("hash a", &[], &[1], 5),
+        ("nothing", &[], &[1], 5),
+    ];
+    for (line, bad_reads, bad_writes, code) in rows {
+        let (status, output) = run(rt.alloc(), line, b"x", bad_reads, bad_writes)?;
+        assert_eq!(rt; status, code, "{line}");
+        assert!(rt; output.bytes().is_empty(), "{line}");
+    }
+    Ok(())
+}

@@ -1,0 +1,4 @@
+pub mod Plain
+pub mod Outcome
+pub mod Kept
+pub mod Reached

@@ -1,0 +1,15 @@
+pub mod Totals
+pub mod Keeping
+pub mod Allowed
+pub mod Fitting
+pub mod Images
+pub mod Updates
+pub mod Lengths
+pub mod Spelled
+pub mod Loops
+pub mod ImageFields
+pub mod ImageBodies
+pub mod ImageOrders
+pub mod ImageItems
+pub mod Imaged
+pub mod Fronts

@@ -189,6 +189,20 @@ fn runs_on_the_plain_tree(rt: HostRuntime) -> Result<(), Fail> {
     Ok(())
 }
 
+/// A directory that is moved into itself, over a file and over a directory with an entry: the walk comes
+/// before the checks of what is replaced.
+#[test]
+fn renames_that_fail_two_checks(rt: HostRuntime) -> Result<(), Fail> {
+    let text =
+        "cluster 1\nsend 1 0 mkdir [0x200000007:0x1:0x0] a [0x200000400:0x1:0x0]\nsend 2 0 create [0x200000400:0x1:0x0] f [0x200000400:0x2:0x0]\nsend 3 0 mkdir [0x200000400:0x1:0x0] b [0x200000400:0x3:0x0]\nsend 4 0 create [0x200000400:0x3:0x0] g [0x200000400:0x4:0x0]\nsend 5 0 rename [0x200000007:0x1:0x0] a [0x200000400:0x1:0x0] f\nsend 6 0 rename [0x200000007:0x1:0x0] a [0x200000400:0x1:0x0] b\nend\n";
+    let want =
+        "reply 1 OK\nreply 2 OK\nreply 3 OK\nreply 4 OK\nreply 5 EINVAL\nreply 6 EINVAL\nend\n";
+    let (status, output) = run(rt.alloc(), "model", text.as_bytes(), &[], &[])?;
+    assert_eq!(rt; status, 0);
+    assert_eq!(rt; output.bytes(), want.as_bytes());
+    Ok(())
+}
+
 #[test]
 fn failing_input_and_output_of_other_words(rt: HostRuntime) -> Result<(), Fail> {
     let rows: [(&str, &[u64], &[u64], u8); 7] = [

@@ -4,5 +4,6 @@ pub mod Hex
 pub mod HexLaws
 pub mod FidLaws
 pub mod Members
+pub mod Fronts
 pub mod PlaceLaws
 pub mod Stripes

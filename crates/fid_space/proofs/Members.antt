@@ -1,11 +1,11 @@
 -- Members of a set of targets: a set with one member more, and a set that covers another.
-use Rattle.std.proofs.Common.{◌≡◌, ◌≢◌, ◌<◌, ◌↔◌, ◌⊎◌, ◌^◌, ◌*◌, ◌%◌, ◌==◌, ℕ, true, false, IsTrue, bit_and, bit_or, min, max, inl, inr, sym, ap, ◌∙◌, subst, arith}
+use Rattle.std.proofs.Common.{◌≡◌, ◌≢◌, ◌<◌, ◌↔◌, ◌⊎◌, ◌^◌, ◌+◌, ◌*◌, ◌%◌, ◌==◌, ◌&&◌, ◌||◌, not, ℕ, true, false, IsTrue, bit_and, bit_or, bit_xor, min, max, inl, inr, sym, ap, ◌∙◌, subst, arith}
 use Rattle.std.specs.Int.{bit_at}
 use Rattle.std.proofs.Math.Pow.{pow-lt}
 use Rattle.std.proofs.lemmas.Bool.{eq-eqb, eqb-true}
-use Rattle.std.proofs.lemmas.Bool.Decides.{eqb_tells}
-use Rattle.std.proofs.lemmas.Nat.Bits.{bit_at-lt, bit_at-zero, bit_at_and, bit_at_or, bit_at-pow_same, bit_at-pow_other, same_from_bits}
-use Rattle.fid_space.specs.Targets.{is_member, joined}
+use Rattle.std.proofs.lemmas.Bool.Decides.{eqb_tells, nat_tests}
+use Rattle.std.proofs.lemmas.Nat.Bits.{bit_at-lt, bit_at-zero, bit_at_and, bit_at_or, bit_at_xor, bit_at-pow_same, bit_at-pow_other, same_from_bits, same_from_bits_below}
+use Rattle.fid_space.specs.Targets.{is_member, joined, union, minus}
 
 -- the empty set has no member
 pub member_none : (t : ℕ) → is_member 0 t ≡ false
@@ -75,3 +75,57 @@ pub member_covers_bits : (set bits other other_bits : ℕ) → bits ≡ set → 
 member_covers_bits set bits other other_bits is other_is =
     subst (λ m. IsTrue (bit_and bits m == m) ↔ ((t : ℕ) → is_member other t ≡ true → is_member set t ≡ true)) (sym other_is)
     (subst (λ s. IsTrue (bit_and s other == other) ↔ ((t : ℕ) → is_member other t ≡ true → is_member set t ≡ true)) (sym is) (member_covers set other))
+
+-- ---- the members of a set that is made of others, as tests
+
+one_or : (a b : ℕ) → a < 2 → b < 2 → (max a b == 1) ≡ ((a == 1) || (b == 1))
+one_or a b low small = grind (arith, nat_tests)
+
+one_minus : (a b : ℕ) → a < 2 → b < 2 → ((a + min a b) % 2 == 1) ≡ ((a == 1) && not (b == 1))
+one_minus a b low small = grind (arith, nat_tests)
+
+pub member_union : (a b t : ℕ) → is_member (union a b) t ≡ (is_member a t || is_member b t)
+member_union a b t = ap (λ n. n == 1) (bit_at_or a b t) ∙ one_or (bit_at a t) (bit_at b t) (bit_at-lt a t) (bit_at-lt b t)
+
+pub member_minus : (a b t : ℕ) → is_member (minus a b) t ≡ (is_member a t && not (is_member b t))
+member_minus a b t =
+    ap (λ n. n == 1) (bit_at_xor a (bit_and a b) t)
+    ∙ ap (λ n. (bit_at a t + n) % 2 == 1) (bit_at_and a b t)
+    ∙ one_minus (bit_at a t) (bit_at b t) (bit_at-lt a t) (bit_at-lt b t)
+
+member_alone : (k t : ℕ) → is_member (2 ^ k) t ≡ (t == k)
+member_alone k t =
+    elim (eqb_tells t k) [
+      | inl e ↦ eq-eqb (bit_at (2 ^ k) t) 1 (ap (λ i. bit_at (2 ^ k) i) e.1 ∙ bit_at-pow_same k) ∙ sym e.0
+      | inr e ↦ ap (λ n. n == 1) (bit_at-pow_other k t e.1) ∙ sym e.0
+    ]
+
+pub member_joined_test : (set k t : ℕ) → is_member (joined set k) t ≡ (is_member set t || (t == k))
+member_joined_test set k t = member_union set (2 ^ k) t ∙ ap (λ b. is_member set t || b) (member_alone k t)
+
+-- the same, of the bits of two sets
+pub member_union_bits : (set bits other other_bits t : ℕ) → bits ≡ set → other_bits ≡ other → is_member (bit_or bits other_bits) t ≡ (is_member set t || is_member other t)
+member_union_bits set bits other other_bits t is other_is = ap (λ n. is_member (bit_or n other_bits) t) is ∙ ap (λ n. is_member (bit_or set n) t) other_is ∙ member_union set other t
+
+pub member_minus_bits : (set bits other other_bits t : ℕ) → bits ≡ set → other_bits ≡ other → is_member (bit_xor bits (bit_and bits other_bits)) t ≡ (is_member set t && not (is_member other t))
+member_minus_bits set bits other other_bits t is other_is =
+    ap (λ n. is_member (bit_xor n (bit_and n other_bits)) t) is ∙ ap (λ n. is_member (bit_xor set (bit_and set n)) t) other_is ∙ member_minus set other t
+
+-- ---- two sets with the same members are one
+
+same_bit : (a b : ℕ) → a < 2 → b < 2 → (a == 1) ≡ (b == 1) → a ≡ b
+same_bit a b low small e =
+    elim (eqb_tells a 1) [
+      | inl x ↦ x.1 ∙ sym (eqb-true b 1 (sym e ∙ x.0))
+      | inr x ↦ elim (eqb_tells b 1) [
+        | inl y ↦ absurd (x.1 (eqb-true a 1 (e ∙ y.0)))
+        | inr y ↦ let p = x.1 in let q = y.1 in omega (arith, p, q)
+      ]
+    ]
+
+pub same_members : (a b : ℕ) → ((t : ℕ) → is_member a t ≡ is_member b t) → a ≡ b
+same_members a b h = same_from_bits a b (λ t. same_bit (bit_at a t) (bit_at b t) (bit_at-lt a t) (bit_at-lt b t) (h t))
+
+pub same_members_below : (a b : ℕ) → a < 2 ^ 16 → b < 2 ^ 16 → ((t : ℕ) → t < 16 → is_member a t ≡ is_member b t) → a ≡ b
+same_members_below a b low small h =
+    same_from_bits_below 16 a b low small (λ t below. same_bit (bit_at a t) (bit_at b t) (bit_at-lt a t) (bit_at-lt b t) (h t below))

@@ -4,3 +4,5 @@ pub mod FidReading
 pub mod Targets
 pub mod StripeLaws
 pub mod Homes
+pub mod Fronts
+pub mod HexText

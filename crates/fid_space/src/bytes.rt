@@ -1,5 +1,5 @@
 ghost use Rattle.std.specs.declared.alloc.Global.{Global};
-ghost use Rattle.std.specs.Prelude.{◌≡◌, ◌++◌, ◌∷◌, [], length, slice_get, ◌==◌, OnOk, OnErr};
+ghost use Rattle.std.specs.Prelude.{◌≡◌, ◌++◌, ◌∷◌, [], length, take, slice_get, ◌==◌, OnOk, OnErr};
 
 use std::alloc::{AllocError as Memory, Global};
 use std::marker::Model;
@@ -50,6 +50,21 @@ impl Bytes {
         ensures { self.new ≡ [] }
     {
         self.inner.clear();
+    }
+
+    /// Keeps the first so many bytes, or all where there are no more, and keeps its memory.
+    pub fn truncate(&mut self, len: usize)
+        ensures { self.new ≡ take len self.old }
+    {
+        self.inner.truncate(len);
+    }
+
+    /// Takes the memory for so many bytes more, which `append` and `push` then need not take. It changes no
+    /// byte, with memory or without.
+    pub fn reserve(&mut self, additional: usize) -> Result<(), Memory>
+        ensures { self.new ≡ self.old }
+    {
+        self.inner.reserve(additional)
     }
 
     /// How many bytes there are.

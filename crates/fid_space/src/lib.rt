@@ -14,6 +14,7 @@ mod lists;
 mod places;
 mod reading;
 mod targets;
+mod text;
 
 pub use bytes::Bytes;
 pub use class::{Class, class_of, print_home};
@@ -22,7 +23,8 @@ pub use fid::{Fid, FidFault, one_text_per_fid};
 pub use laws::stripe_fids_are_their_own;
 pub use lists::{Fids, Numbers};
 pub use places::{NoHome, client_fid, client_fids_have_their_place, is_client, locate, stripe_fid};
-pub use targets::Targets;
+pub use targets::{Targets, members_by_parts, targets_are_their_members};
+pub use text::{hex_digit, print_hex, print_hex_digits, print_number};
 
 #[cfg(test)]
 mod tests;

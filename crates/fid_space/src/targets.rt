@@ -1,5 +1,5 @@
-ghost use Rattle.std.specs.Prelude.{◌≡◌, ◌<◌, ◌↔◌, ◌⊎◌, ◌^◌, ℕ, true, IsTrue};
-ghost use Rattle.fid_space.specs.Targets.{is_member, joined};
+ghost use Rattle.std.specs.Prelude.{◌≡◌, ◌<◌, ◌↔◌, ◌⊎◌, ◌^◌, ◌==◌, ◌&&◌, ◌||◌, not, ℕ, true, false, IsTrue};
+ghost use Rattle.fid_space.specs.Targets.{is_member, joined, covers, union, minus};
 
 use std::marker::Model;
 
@@ -48,8 +48,45 @@ impl Targets {
 
     /// Whether each member of the other set is one of this. A set covers itself, and the empty set.
     pub fn covers(self, other: Targets) -> bool
-        ensures { IsTrue result ↔ ((t : ℕ) → is_member other t ≡ true → is_member self t ≡ true) }
+        ensures value { result ≡ covers self other }
+        ensures members { IsTrue result ↔ ((t : ℕ) → is_member other t ≡ true → is_member self t ≡ true) }
     {
         self.bits & other.bits == other.bits
     }
+
+    /// The set of the members of either.
+    pub fn union(self, other: Targets) -> Targets
+        ensures value { result ≡ union self other }
+        ensures members { (t : ℕ) → is_member result t ≡ (is_member self t || is_member other t) }
+    {
+        Targets {
+            bits: self.bits | other.bits,
+        }
+    }
+
+    /// The set of the members of this that the other has not.
+    pub fn minus(self, other: Targets) -> Targets
+        ensures value { result ≡ minus self other }
+        ensures members { (t : ℕ) → is_member result t ≡ (is_member self t && not (is_member other t)) }
+    {
+        Targets {
+            bits: self.bits ^ (self.bits & other.bits),
+        }
+    }
 }
+
+/// Two sets with the same members are one. The call does nothing: its contract is a law.
+pub fn targets_are_their_members()
+    ensures all { (a b : ℕ) → ((t : ℕ) → is_member a t ≡ is_member b t) → a ≡ b }
+    // Of sets of targets 0 to 15.
+    ensures below { (a b : ℕ) → a < 2 ^ 16 → b < 2 ^ 16 → ((t : ℕ) → t < 16 → is_member a t ≡ is_member b t) → a ≡ b }
+{}
+
+/// The members of a set that is made of others, as tests. The call does nothing: its contract is a law.
+pub fn members_by_parts()
+    ensures none { (t : ℕ) → is_member 0 t ≡ false }
+    ensures joined { (set target t : ℕ) → is_member (joined set target) t ≡ (is_member set t || (t == target)) }
+    ensures union { (a b t : ℕ) → is_member (union a b) t ≡ (is_member a t || is_member b t) }
+    ensures minus { (a b t : ℕ) → is_member (minus a b) t ≡ (is_member a t && not (is_member b t)) }
+    ensures covers { (a b : ℕ) → (covers a b ≡ true) ↔ ((t : ℕ) → is_member b t ≡ true → is_member a t ≡ true) }
+{}

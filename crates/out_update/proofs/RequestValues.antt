@@ -38,7 +38,8 @@ params_back (s ∷ ss) (x ∷ ps) rest h =
     let e : params_text (x ∷ ps) ++ rest ≡ param_text x ++ (params_text ps ++ rest) = ap (λ (t : List ℕ). t ++ rest) (flat_map-cons param_text x ps) ∙ append_assoc (param_text x) (params_text ps) rest in
     ap (many param_value (suc (length ps))) e ∙ rw (param_back s x (params_text ps ++ rest) h.0, params_back ss ps rest h.1) refl
 
-fid_back : (f : Fid) (rest : List ℕ) → IsFid f → fid_value (fid_bytes f ++ rest) ≡ Some (f, rest)
+-- the 16 bytes of a FID
+pub fid_back : (f : Fid) (rest : List ℕ) → IsFid f → fid_value (fid_bytes f ++ rest) ≡ Some (f, rest)
 unfolding fid_value
 fid_back f rest h =
     let e : fid_bytes f ++ rest ≡ word w64 f.seq ++ (word w32 f.oid ++ (word w32 f.ver ++ rest)) = simp append_assoc in

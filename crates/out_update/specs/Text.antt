@@ -1,8 +1,9 @@
 -- The decoded text of a request, and that of a fault.
-use Rattle.std.specs.Prelude.{ℕ, ◌/◌, ◌%◌, false, List, [], ◌∷◌, ◌++◌, length, codes, Option, Some, None}
+use Rattle.std.specs.Prelude.{ℕ, List, ◌++◌, length, codes, Option, Some, None}
 use Rattle.std.specs.List.{flat_map}
-use Rattle.std.specs.Fmt.{decimal, digit_glyph}
+use Rattle.std.specs.Fmt.{decimal}
 use Rattle.fid_space.specs.FidText.{fid_text}
+use Rattle.fid_space.specs.HexText.{hex_text}
 use Rattle.out_update.specs.declared.update.Kind.{Kind}
 use Rattle.out_update.specs.declared.update.Kind.TheVariants as kind
 use Rattle.out_update.specs.declared.update.Update.{Update}
@@ -27,14 +28,7 @@ kind_word kind.ParentSet = codes "parent_set"
 kind_word kind.Names = codes "names"
 kind_word kind.Count = codes "count"
 
-abbrev pub hex_byte : ℕ → List ℕ
-hex_byte b = digit_glyph false (b / 16) ∷ digit_glyph false (b % 16) ∷ []
-
 -- two lower-case digits a byte, or a dash for none
-abbrev pub hex_text : List ℕ → List ℕ
-hex_text [] = codes "-"
-hex_text (b ∷ bs) = flat_map hex_byte (b ∷ bs)
-
 abbrev pub param_line : List ℕ → List ℕ
 param_line p = codes "param " ++ (hex_text p ++ codes "\n")
 

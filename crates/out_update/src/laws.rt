@@ -1,10 +1,13 @@
-ghost use Rattle.std.specs.Prelude.{◌≡◌, ◌≤◌, ℕ, ◌++◌, List, [], length, take};
+ghost use Rattle.std.specs.Prelude.{◌≡◌, ◌≤◌, ℕ, ◌++◌, List, [], length, take, Some};
 ghost use Rattle.byte_grammar.specs.declared.verdict.Refusal.{Refusal};
 ghost use Rattle.byte_grammar.specs.Numbers.{IsBytes};
+ghost use Rattle.fid_space.specs.declared.fid.Fid.{Fid};
+ghost use Rattle.fid_space.specs.FidText.{IsFid};
 ghost use Rattle.out_update.specs.declared.update.Update.{Update};
 ghost use Rattle.out_update.specs.declared.result.UpdateResult.{UpdateResult};
-ghost use Rattle.out_update.specs.Spelling.{spells, FitsRequest};
+ghost use Rattle.out_update.specs.Spelling.{fid_bytes, spells, FitsRequest};
 ghost use Rattle.out_update.specs.Replies.{spells_reply, FitsReply};
+ghost use Rattle.out_update.specs.Values.{fid_value};
 ghost use Rattle.out_update.specs.Decoding.{judge_request, judge_reply};
 
 use byte_grammar::Verdict;
@@ -46,4 +49,9 @@ pub fn verdicts_are_of_spelled_replies()
     ensures refused { (bytes : List ℕ) (r : Refusal) (rs : List UpdateResult) (rest : List ℕ) → judge_reply bytes ≡ Verdict.Refused r → spells_reply rs (bytes ++ rest) → ⊥ }
     // At More no spelling has ended.
     ensures more { (bytes : List ℕ) (rs : List UpdateResult) (a rest : List ℕ) → judge_reply bytes ≡ Verdict.More → spells_reply rs a → bytes ≡ a ++ rest → ⊥ }
+{}
+
+/// The 16 bytes of a FID are read as that FID, whatever follows.
+pub fn a_fid_is_read_back()
+    ensures { (f : Fid) (rest : List ℕ) → IsFid f → fid_value (fid_bytes f ++ rest) ≡ Some (f, rest) }
 {}

@@ -28,8 +28,8 @@ pub use decoder::{Decoder, Progress, ReplyDecoder, ReplyProgress};
 pub use fault::UpdateFault;
 pub use kinds::kind_of;
 pub use laws::{
-    one_spelling_per_reply, one_spelling_per_request, verdicts_are_of_spelled_replies,
-    verdicts_are_of_spelled_requests,
+    a_fid_is_read_back, one_spelling_per_reply, one_spelling_per_request,
+    verdicts_are_of_spelled_replies, verdicts_are_of_spelled_requests,
 };
 pub use parts::Parts;
 pub use pieces::read_pieces;

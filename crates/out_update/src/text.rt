@@ -1,12 +1,13 @@
-ghost use Rattle.std.specs.Prelude.{◌≡◌, ◌++◌, ◌<◌, false, length, codes, Option, Some, None, OnOk, OnErr};
+ghost use Rattle.std.specs.Prelude.{◌≡◌, ◌++◌, length, codes, Option, Some, None, OnOk, OnErr};
 ghost use Rattle.std.specs.Option.{option_map};
-ghost use Rattle.std.specs.Fmt.{decimal, digit_glyph};
+ghost use Rattle.std.specs.Fmt.{decimal};
 ghost use Rattle.std.specs.List.{flat_map};
-ghost use Rattle.out_update.specs.Text.{kind_word, hex_byte, hex_text, param_line, update_lines, decoded_text, told};
+ghost use Rattle.fid_space.specs.HexText.{hex_text};
+ghost use Rattle.out_update.specs.Text.{kind_word, param_line, update_lines, decoded_text, told};
 
 use crate::fault::UpdateFault;
 use crate::update::{Kind, Update, UpdateRequest};
-use fid_space::Bytes;
+use fid_space::{Bytes, print_hex, print_number};
 use std::alloc::AllocError as Memory;
 
 impl Kind {
@@ -53,35 +54,6 @@ impl UpdateFault {
     }
 }
 
-fn hex_digit(digit: u8) -> u8
-    requires { digit < 16 }
-    ensures { result ≡ digit_glyph false digit }
-{
-    if digit < 10 {
-        b'0' + digit
-    } else {
-        b'a' + (digit - 10)
-    }
-}
-
-fn print_digits(bytes: &[u8], out: &mut Bytes) -> Result<(), Memory>
-    ensures { OnOk result (out.new ≡ out.old ++ flat_map hex_byte bytes.now) }
-{
-    for b in bytes {
-        out.append(&[hex_digit(*b / 16), hex_digit(*b % 16)])?;
-    }
-    Ok(())
-}
-
-fn print_hex(bytes: &[u8], out: &mut Bytes) -> Result<(), Memory>
-    ensures { OnOk result (out.new ≡ out.old ++ hex_text bytes.now) }
-{
-    if bytes.is_empty() {
-        return out.append(b"-");
-    }
-    print_digits(bytes, out)
-}
-
 fn print_param(param: &Bytes, out: &mut Bytes) -> Result<(), Memory>
     ensures { OnOk result (out.new ≡ out.old ++ param_line param.now) }
 {
@@ -98,14 +70,6 @@ fn print_params(params: &[Bytes], out: &mut Bytes) -> Result<(), Memory>
         print_param(param, out)?;
     }
     Ok(())
-}
-
-fn print_number(n: u64, out: &mut Bytes) -> Result<(), Memory>
-    ensures { OnOk result (out.new ≡ out.old ++ decimal n) }
-{
-    let alloc = out.alloc();
-    let text = n.to_string(alloc)?;
-    out.append(text.as_bytes())
 }
 
 fn print_update(update: &Update, out: &mut Bytes) -> Result<(), Memory>

@@ -161,6 +161,13 @@ impl UpdateRequest {
         self.inner.len()
     }
 
+    /// Lends the updates.
+    pub fn items(&self) -> &[Update]
+        ensures { result.now ≡ self.now }
+    {
+        self.inner.as_slice()
+    }
+
     /// Lends the update at an index, counted from 0, or `None` past the end.
     pub fn get(&self, i: usize) -> Option<&Update>
         ensures { option_copied result ≡ slice_get self.now i }

@@ -4,9 +4,8 @@ use Rattle.std.proofs.Common.{◌≡◌, ⊎_elim, ◌<◌, ◌*◌, ◌/◌, �
 use Rattle.std.proofs.lemmas.List.{length-map, get_or-map, get_or_past}
 use Rattle.std.proofs.lemmas.Bool.{cases_lt}
 use Rattle.outside.specs.Disk.{IsImage, settles}
-use Rattle.outside.specs.Cells.{blank, blanks, page_len, keeps, chosen, cycle_cell, content_of, kept_of, settled_of, FitsCell, Cycled}
+use Rattle.outside.specs.Cells.{Cell, blank, blanks, page_len, keeps, chosen, cycle_cell, content_of, kept_of, settled_of, FitsCell, Cycled}
 use Rattle.outside.specs.Pages.{cells, page_cells, FitsPages}
-use Rattle.outside.specs.declared.cell.Cell.{Cell}
 use Rattle.outside.specs.declared.page.Page.{Page}
 use Rattle.outside.proofs.Places.{length-cells, length-blanks, get_or-blanks, length-page_cells, cell_place}
 use Rattle.outside.proofs.Mapped.{map_is}

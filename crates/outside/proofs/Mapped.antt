@@ -2,9 +2,8 @@
 use Rattle.std.proofs.Common.{◌≡◌, ◌<◌, ◌≤◌, ◌+◌, ℕ, zero, suc, List, [], ◌∷◌, ◌++◌, Option, Some, None, length, get_or, drop, map, refl, sym, ◌∙◌, ap, arith}
 use Rattle.std.proofs.lemmas.List.{length-map, get_or-map, get_or-take, get_or-drop, get_or_default, same_lists, map-append, length-take-le, length-drop}
 use Rattle.outside.specs.Disk.{disk_len, part, FitsWhole, settles}
-use Rattle.outside.specs.Cells.{blank, blanks, settle_cell, content_of, kept_of, Cycled}
+use Rattle.outside.specs.Cells.{Cell, blank, blanks, settle_cell, content_of, kept_of, Cycled}
 use Rattle.outside.specs.Pages.{page_cells, cells}
-use Rattle.outside.specs.declared.cell.Cell.{Cell}
 use Rattle.outside.specs.declared.page.Page.{Page}
 
 pub map_is : {X Y : Type 0} (f : X → Y) (xs : List X) (ys : List Y) (d : X) (e : Y) → length ys ≡ length xs → ((k : ℕ) → k < length xs → get_or ys k e ≡ f (get_or xs k d)) → ys ≡ map f xs

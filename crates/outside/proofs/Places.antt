@@ -3,18 +3,23 @@ use Rattle.std.proofs.Common.{◌≡◌, ⊎_elim, ◌<◌, ◌≤◌, ◌+◌, 
 use Rattle.std.specs.Prelude.{Bool, true, not, is_some}
 use Rattle.std.proofs.lemmas.Bool.{true≢false, cases_lt}
 use Rattle.std.proofs.lemmas.List.{get_or_append_left, get_or-append-add, set-append_left, set-append_right, length-replicate, get_or-replicate}
-use Rattle.outside.specs.Cells.{blank, blanks, page_len}
+use Rattle.outside.specs.Cells.{Cell, zipped, blank, blanks, page_len}
 use Rattle.outside.specs.Pages.{page_cells, cells, HasPages, HasRange, MakesOnly}
-use Rattle.outside.specs.declared.cell.Cell.{Cell}
 use Rattle.outside.specs.declared.page.Page.{Page}
 
 pub length-blanks : (n : ℕ) → length (blanks n) ≡ n
 unfolding blanks
 length-blanks n = length-replicate n blank
 
+pub length-zipped : (n : ℕ) (content settled : List ℕ) (dirty : List Bool) → length content ≡ n → length settled ≡ n → length dirty ≡ n → length (zipped content settled dirty) ≡ n
+length-zipped n [] settled dirty one two three = one
+length-zipped n (c ∷ content) [] dirty one two three = absurd (omega arith)
+length-zipped n (c ∷ content) (s ∷ settled) [] one two three = absurd (omega arith)
+length-zipped n (c ∷ content) (s ∷ settled) (d ∷ dirty) one two three = omega (arith, length-zipped (length content) content settled dirty refl (omega arith) (omega arith))
+
 pub length-page_cells : (page : Option Page) → length (page_cells page) ≡ page_len
 length-page_cells None = length-blanks page_len
-length-page_cells (Some page) = page.size
+length-page_cells (Some page) = length-zipped page_len page.content.items page.settled.items page.dirty.items page.fits.content_size page.fits.settled_size page.fits.dirty_size
 
 pub length-cells : (pages : List (Option Page)) → length (cells pages) ≡ length pages * page_len
 length-cells [] = refl

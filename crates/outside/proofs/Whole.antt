@@ -4,9 +4,9 @@ use Rattle.std.proofs.Common.{◌≡◌, ⊎_elim, ◌<◌, ◌≤◌, ◌+◌, 
 use Rattle.std.proofs.lemmas.List.{length-map, get_or-map, get_or_past, get_or-take, get_or-drop, get_or_default, same_lists, take-map, drop-map, drop-drop, length-take-le, length-drop, get_or_append_left, get_or-append_right}
 use Rattle.std.proofs.lemmas.Bool.{true≢false, cases_lt, cases_Bool, cond-true, cond-false, both_ways}
 use Rattle.outside.specs.Disk.{disk_len, part, put, ChangesOnly, IsImage, settles}
-use Rattle.outside.specs.Cells.{blank, blanks, page_len, written, settle_cell, content_of, kept_of, settled_of, FitsCell}
-use Rattle.outside.specs.Pages.{cells, page_cells, FitsPages, Overwrites}
-use Rattle.outside.specs.declared.cell.Cell.{Cell}
+use Rattle.outside.specs.Cells.{Cell, blank, blanks, page_len, written, settle_cell, content_of, kept_of, settled_of, FitsCell}
+use Rattle.outside.specs.Pages.{cells, page_cells, FitsPages}
+use Rattle.outside.specs.Cells.{Overwrites}
 use Rattle.outside.specs.declared.page.Page.{Page}
 use Rattle.outside.proofs.Parts.{get_or_below, get_or_above}
 use Rattle.outside.proofs.Places.{length-cells, length-blanks, get_or-blanks}

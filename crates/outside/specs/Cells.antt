@@ -1,6 +1,30 @@
 -- The cells of a disk in memory.
-use Rattle.std.specs.Prelude.{◌≡◌, ◌<◌, ◌/◌, ◌%◌, ◌^◌, ◌==◌, ◌||◌, not, ℕ, List, Bool, false, true, if◌then◌else◌, Option, Some, None, length, replicate, slice_index_or}
-use Rattle.outside.specs.declared.cell.Cell.{Cell}
+use Rattle.std.specs.Prelude.{◌≡◌, ◌<◌, ◌≤◌, ◌/◌, ◌%◌, ◌^◌, ◌==◌, ◌||◌, not, ℕ, List, Bool, false, true, if◌then◌else◌, Option, Some, None, length, replicate, slice_index_or}
+use Rattle.std.specs.Prelude.{[], ◌∷◌, ◌+◌, slice_index}
+use Rattle.outside.specs.Disk.{ChangesOnly}
+
+-- what stands at one place
+pub record Cell : Type 0 where
+  pub content : ℕ
+  pub settled : ℕ
+  pub dirty : Bool
+
+-- cells by their contents, their settled bytes and whether they are dirty
+abbrev pub zipped : List ℕ → List ℕ → List Bool → List Cell
+zipped [] settled dirty = []
+zipped (c ∷ content) [] dirty = []
+zipped (c ∷ content) (s ∷ settled) [] = []
+zipped (c ∷ content) (s ∷ settled) (d ∷ dirty) = record { content = c; settled = s; dirty = d } ∷ zipped content settled dirty
+
+-- a page's bytes, of which none below one place or from another on is dirty
+pub record FitsPage (content settled : List ℕ) (dirty : List Bool) (low high : ℕ) : Type 0 where
+  pub content_size : length content ≡ 65536
+  pub settled_size : length settled ≡ 65536
+  pub dirty_size : length dirty ≡ 65536
+  pub order : low ≤ high
+  pub inside : high ≤ 65536
+  pub below : (k : ℕ) → k < low → (slice_index_or dirty k false ≡ false) × (slice_index_or content k 0 ≡ slice_index_or settled k 0)
+  pub above : (k : ℕ) → high ≤ k → (slice_index_or dirty k false ≡ false) × (slice_index_or content k 0 ≡ slice_index_or settled k 0)
 
 abbrev pub page_len : ℕ
 page_len = 65536
@@ -51,3 +75,8 @@ cycle_cell stays cell = record { content = chosen stays cell; settled = chosen s
 pub record Cycled (choice : ℕ) (old new : List Cell) : Type 0 where
   pub size : length new ≡ length old
   pub each : (k : ℕ) → k < length old → slice_index_or new k blank ≡ cycle_cell (keeps choice k) (slice_index_or old k blank)
+
+-- bytes written over cells
+pub record Overwrites (at : ℕ) (bytes : List ℕ) (old new : List Cell) : Type 0 where
+  pub changes : ChangesOnly at (length bytes) old new
+  pub inside : (k : ℕ) → k < length bytes → slice_index_or new (at + k) blank ≡ written (slice_index_or old (at + k) blank) (slice_index bytes k)

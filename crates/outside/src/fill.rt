@@ -2,10 +2,11 @@
 ghost use Rattle.std.specs.Prelude.{◌≡◌, ◌+◌, ◌*◌, ◌-◌, ◌/◌, ◌<◌, ◌≤◌, ℕ, length, slice_set, slice_index, slice_index_or, IfOk, OnOk, OnErr, IsSome, None, IsTrue, is_some, true, map};
 ghost use Rattle.outside.specs.Disk.{ChangesOnly, disk_len, part};
 ghost use Rattle.outside.specs.Cells.{page_len, blank, written, settle_cell, content_of, Cycled};
-ghost use Rattle.outside.specs.Pages.{cells, page_cells, HasPages, HasRange, MakesOnly, Overwrites};
+ghost use Rattle.outside.specs.Pages.{cells, page_cells, HasPages, HasRange, MakesOnly};
+ghost use Rattle.outside.specs.Cells.{Overwrites};
 
 use crate::page::{PAGE_LEN, Page};
-use crate::pages::{cell_at, make_page, put_at};
+use crate::pages::{make_page, put_piece, read_piece};
 use std::alloc::{AllocError as Memory, Global};
 
 /// Makes the pages of a range.
@@ -42,8 +43,11 @@ pub fn put_range(pages: &mut Vec<Option<Page>>, at: usize, from: &[u8])
     ensures count { length pages.new.items ≡ length pages.old.items }
     ensures same { (p : ℕ) → is_some (slice_index_or pages.new.items p None) ≡ is_some (slice_index_or pages.old.items p None) }
 {
-    for (i, byte) in from.iter().enumerate() {
-        put_at(pages, at + i, *byte);
+    let mut done = 0;
+    while done < from.len() {
+        let n = (PAGE_LEN - (at + done) % PAGE_LEN).min(from.len() - done);
+        put_piece(pages, at + done, &from[done..done + n]);
+        done += n;
     }
 }
 
@@ -96,8 +100,11 @@ pub fn read_range(pages: &Vec<Option<Page>>, at: usize, into: &mut [u8])
     requires pages { length pages.now.items ≡ 1024 }
     ensures { into.new ≡ part at (length into.old) (map content_of (cells pages.now.items)) }
 {
-    for i in 0..into.len() {
-        into[i] = cell_at(pages, at + i).content;
+    let mut done = 0;
+    while done < into.len() {
+        let n = (PAGE_LEN - (at + done) % PAGE_LEN).min(into.len() - done);
+        read_piece(pages, at + done, &mut into[done..done + n]);
+        done += n;
     }
 }
 

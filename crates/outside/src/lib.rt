@@ -8,7 +8,7 @@
 //! honest, and when their calls fail is exact; of a `FileDisk` only the count of faults is known.
 #![tactic(auto)]
 
-mod cell;
+mod bytes;
 mod disk;
 mod file;
 mod fill;

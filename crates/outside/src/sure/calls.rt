@@ -4,6 +4,7 @@ ghost use Rattle.outside.specs.Causes.{HasCause};
 ghost use Rattle.outside.specs.Disk.{disk_len, part, put, Fuse, IsNew, Stays, Syncs, Writes, Cycles};
 ghost use Rattle.outside.specs.Sure.{seen};
 
+use crate::bytes::{overwrite, zeros};
 use crate::{Disk, DiskFault, Plant, SureDisk};
 use std::alloc::{AllocError as Memory, Global};
 
@@ -93,19 +94,4 @@ impl Plant for SureDisk {
     ghost fuse = { λ d. None };
 
     fn arm(&mut self, _after: u32, _choice: u8) {}
-}
-
-fn overwrite(content: &mut Vec<u8>, at: usize, from: &[u8])
-    requires { at + length from.now ≤ length content.old.items }
-    ensures { content.new.items ≡ put content.old.items at from.now }
-{
-    content[at..at + from.len()].copy_from_slice(from);
-}
-
-// A variable length keeps the list of zeros from being computed.
-fn zeros(alloc: Global, len: usize) -> Result<Vec<u8>, Memory>
-    ensures len { IfOk result (λ v. length v.items ≡ len) }
-    ensures zero { IfOk result (λ v. (k : ℕ) → slice_index v.items k ≡ 0) }
-{
-    vec![in alloc; 0; len]
 }

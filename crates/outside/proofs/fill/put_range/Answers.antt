@@ -1,23 +1,21 @@
-use Rattle.std.proofs.Common.{◌<◌, ◌+◌, length, arith, ◌∙◌}
+use Rattle.std.proofs.Common.{◌∙◌, refl, arith}
 use Rattle.outside.specs.Pages.{cells}
-use Rattle.outside.proofs.Places.{length-cells}
-use Rattle.outside.proofs.Overwrite.{changes_more, done_more, ahead_more}
+use Rattle.outside.proofs.Zipped.{over_none, over_next}
 use Rattle.outside.proofs.fill.put_range.Goals as goal
 
-pub loop-i-preserved : goal.loop-i-preserved
-loop-i-preserved c =
-    let now = c.loop-i.invariant in
-    let at = c.args.at in
-    let from = c.args.from.now in
-    let old = cells c.args.pages.now.items in
-    let cur = cells c.loop-i.pages.items in
-    let new = cells c.put_at.new.pages.items in
-    let inside : at + c.loop-i.i < length cur = omega (arith, length-cells c.loop-i.pages.items, now.count, c.requires.pages, c.requires.within) in
-    record {
-      there = λ k le lt. c.put_at.ensures.same _ ∙ now.there k le lt;
-      count = c.put_at.ensures.count ∙ now.count;
-      same = λ p. c.put_at.ensures.same p ∙ now.same p;
-      changes = changes_more at (length from) c.loop-i.i from old cur new (omega arith) inside c.put_at.ensures.cells now.changes;
-      done = done_more at (length from) c.loop-i.i from old cur new (omega arith) inside c.put_at.ensures.cells now.done now.ahead;
-      ahead = ahead_more at (length from) c.loop-i.i from old cur new (omega arith) inside c.put_at.ensures.cells now.ahead;
+pub loop-done-init : goal.loop-done-init
+loop-done-init c = record {
+  within = omega arith;
+  count = refl;
+  same = λ p. refl;
+  over = over_none c.args.at (cells c.args.pages.now.items);
+}
+
+pub loop-done-preserved : goal.loop-done-preserved
+loop-done-preserved c =
+    let now = c.loop-done.invariant in record {
+      within = omega arith;
+      count = c.put_piece.ensures.count ∙ now.count;
+      same = λ p. c.put_piece.ensures.same p ∙ now.same p;
+      over = over_next c.args.at c.loop-done.done c.min-n.result _ c.args.from.now _ _ _ (omega arith) (omega arith) now.over c.put_piece.ensures.cells;
     }

@@ -1,8 +1,7 @@
-use Rattle.std.proofs.Common.{◌∙◌}
-use Rattle.outside.proofs.Mapped.{cycled_settled}
+use Rattle.outside.proofs.Zipped.{cycled_from}
 use Rattle.outside.proofs.page.Page.cycle.Goals as goal
 
-pub invariant_of-self : goal.invariant_of-self
-invariant_of-self c =
-    let cycled = c.cycle_cells.ensures in
-    record { size = cycled.size ∙ c.args.self.now.size; clean = λ _. cycled_settled c.args.choice c.args.self.now.cells.items c.cycle_cells.new.cells.items cycled }
+pub returns : goal.returns
+returns c =
+    let old = c.args.self.now in
+    cycled_from c.args.choice old.content.items c.choose_bytes.new.content.items old.settled.items old.dirty.items old.low old.high _ old.fits c.choose_bytes.ensures.fits c.choose_bytes.ensures.chosen c.settle_range.ensures.cells

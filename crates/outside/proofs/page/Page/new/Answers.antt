@@ -1,9 +1,8 @@
-use Rattle.std.proofs.Common.{map, sym, ap, ◌∙◌}
-use Rattle.outside.specs.Cells.{page_len, settle_cell}
-use Rattle.outside.proofs.Mapped.{settle_none}
+use Rattle.outside.proofs.Zipped.{fits_zeros, zeros_cells}
 use Rattle.outside.proofs.page.Page.new.Goals as goal
 
 pub invariant_of-result : goal.invariant_of-result
-invariant_of-result c =
-    let items = c.in_ok-blank_cells.ensures.items in
-    record { size = c.in_ok-blank_cells.ensures.len; clean = λ _. ap (map settle_cell) items ∙ sym (settle_none page_len) ∙ sym items }
+invariant_of-result c = record { fits = fits_zeros _ _ _ c.in_ok-zeros.ensures.len c.in_ok-zeros-2.ensures.len c.in_ok-unset.ensures.len c.in_ok-zeros.ensures.zero c.in_ok-zeros-2.ensures.zero c.in_ok-unset.ensures.unset }
+
+pub returns : goal.returns
+returns c = zeros_cells _ _ _ c.in_ok-zeros.ensures.len c.in_ok-zeros-2.ensures.len c.in_ok-unset.ensures.len c.in_ok-zeros.ensures.zero c.in_ok-zeros-2.ensures.zero c.in_ok-unset.ensures.unset

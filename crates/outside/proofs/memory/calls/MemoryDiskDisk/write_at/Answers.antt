@@ -1,7 +1,8 @@
 use Rattle.std.proofs.Common.{◌≡◌, ◌≤◌, ◌+◌, length, ◌∙◌, subst, arith, rules, inr, false}
 use Rattle.std.specs.Prelude.{is_err}
 use Rattle.outside.specs.Cells.{content_of, kept_of}
-use Rattle.outside.specs.Pages.{cells, Overwrites}
+use Rattle.outside.specs.Pages.{cells}
+use Rattle.outside.specs.Cells.{Overwrites}
 use Rattle.outside.proofs.Whole.{on_ok, ok_at, dirty_over, under_over}
 use Rattle.outside.proofs.Places.{length-cells}
 use Rattle.outside.proofs.Whole.{whole_pages, changes-map, content_put, fits_over}

@@ -1,11 +1,8 @@
-ghost use Rattle.std.specs.Prelude.{◌≡◌, ◌<◌, ◌++◌, false, OnOk, OnErr};
-ghost use Rattle.std.specs.Fmt.{digit_glyph};
-ghost use Rattle.std.specs.List.{flat_map};
-ghost use Rattle.out_update.specs.Text.{hex_byte};
+ghost use Rattle.std.specs.Prelude.{◌≡◌, ◌++◌, OnOk, OnErr};
 ghost use Rattle.tree_model.specs.Striped.{fnv1a_64};
 ghost use Rattle.striped_dir.specs.HashText.{hash_text};
 
-use fid_space::Bytes;
+use fid_space::{Bytes, print_hex_digits};
 use std::alloc::AllocError as Memory;
 
 /// The FNV-1a hash over 64 bits, as its public specification has it: each byte is taken in by an exclusive
@@ -21,27 +18,6 @@ pub fn fnv1a_64(bytes: &[u8]) -> u64
     hash
 }
 
-/// A digit of a hexadecimal number, in lower case.
-fn hex_digit(digit: u8) -> u8
-    requires { digit < 16 }
-    ensures { result ≡ digit_glyph false digit }
-{
-    if digit < 10 {
-        b'0' + digit
-    } else {
-        b'a' + (digit - 10)
-    }
-}
-
-fn print_digits(bytes: &[u8], out: &mut Bytes) -> Result<(), Memory>
-    ensures { OnOk result (out.new ≡ out.old ++ flat_map hex_byte bytes.now) }
-{
-    for b in bytes {
-        out.append(&[hex_digit(*b >> 4), hex_digit(*b & 15)])?;
-    }
-    Ok(())
-}
-
 /// Adds the 16 hexadecimal digits of a hash at the end, in lower case, the highest first. Want of memory
 /// adds nothing.
 #[tactic(auto, unfolding(crate::specs::HashText::hash_text))]
@@ -50,6 +26,6 @@ pub fn print_hash(hash: u64, out: &mut Bytes) -> Result<(), Memory>
     ensures err { OnErr result (out.new ≡ out.old) }
 {
     let mut text = Bytes::new(out.alloc());
-    print_digits(&hash.to_be_bytes(), &mut text)?;
+    print_hex_digits(&hash.to_be_bytes(), &mut text)?;
     out.append(text.bytes())
 }

@@ -16,7 +16,8 @@ pub struct Need {
 pub struct Decision {
     /// The answer to the operation.
     pub reply: Reply,
-    /// The updates of the change; none for a refused operation and for a read.
+    /// The updates of the change, one part for each target that it writes. A refused operation and a read
+    /// have one part, that of the home, without updates.
     pub parts: Parts,
     /// The targets that the operation is on.
     pub on: Targets,

@@ -9,7 +9,7 @@ use Rattle.fid_space.specs.FidText.{fid_text}
 use Rattle.fid_space.specs.Places.{has_place}
 use Rattle.fid_space.proofs.FidTexts.{one_fid}
 use Rattle.tree_model.specs.Names.{name_word}
-use Rattle.tree_model.specs.ReplyText.{hex_text}
+use Rattle.fid_space.specs.HexText.{hex_text}
 use Rattle.tree_model.specs.OpText.{IsOp, op_words}
 use Rattle.tree_model.specs.OpReading.{Field, FidField, NameField, HexField, NumberField, u32_field, IsGood, IsBad, IsFirstBad, IsBadForm, IsKindFault, IsOpFault, kind_word, forms}
 use Rattle.tree_model.specs.declared.op.Op.{Op}

@@ -13,7 +13,8 @@ use Rattle.tree_model.specs.declared.errno.Errno.TheVariants.{EINVAL, ELOOP, EFB
 use Rattle.tree_model.specs.Tree.{Tree, Names, names_of, named, same_fid, root_fid}
 use Rattle.tree_model.specs.Changes.{Change, changed_all, DropName, PutName}
 use Rattle.tree_model.specs.Keys.{NodeKey, NameKey, AllKey, Value, NodeValue, NameValue, AllValue, Laid, at}
-use Rattle.tree_model.specs.Looks.{create_plan, Plan, AskNode, AskName, AskAll, Decide, decided, asked, check, found, on_directory, walk, whole_walk, rename_to, replace_plan, move_plan, plan}
+use Rattle.tree_model.specs.Looks.{create_plan, Plan, AskNode, AskName, AskAll, Decide, decided, asked, check, found, on_directory, walk, whole_walk, rename_to, replace_plan, move_plan, plan, changes}
+use Rattle.tree_model.specs.Laws.{unless}
 use Rattle.tree_model.specs.Step.{create_fault, client_fault, layout_fault, taken_fault, absent_fault, link_fault, file_fault, directory_fault, unlinked, renamed, setxattr_fault, xattr_fault, stripes_fault, step, checked, first_fault, op_fault, op_changes, op_reply, parent_fault, found_fault, there_fault, is_dir, kind_fault, empty_fault, over_fault, walk_fault, loop_fault, moved_fault, same_place, same_node, parent_of, released, replaced, moved_node}
 
 node_of : Value → Option Node
@@ -217,3 +218,11 @@ stepped (Some e) t out = refl
 pub step_decided : (targets : ℕ) (t : Tree) (op : Op) → step targets t op ≡ (changed_all t (decided (plan targets op) t).1, (decided (plan targets op) t).0)
 step_decided targets t op =
     stepped (op_fault targets t op) t (done t op) ∙ ap (λ (o : Outcome). (changed_all t o.1, o.0)) (sym (op_decides targets t op))
+
+-- the changes that the plan decides
+of_fault : (f : Option Errno) (out : Outcome) → (guarded f out).1 ≡ unless f out.1
+of_fault None out = refl
+of_fault (Some e) out = refl
+
+pub changes_decided : (targets : ℕ) (t : Tree) (op : Op) → changes targets t op ≡ unless (op_fault targets t op) (op_changes t op)
+changes_decided targets t op = ap (λ (o : Outcome). o.1) (op_decides targets t op) ∙ of_fault (op_fault targets t op) (done t op)

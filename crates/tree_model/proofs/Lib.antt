@@ -13,3 +13,6 @@ pub mod Writing
 pub mod Agreement
 pub mod Looking
 pub mod Placing
+pub mod Fronts
+pub mod OneTarget
+pub mod Scenarios

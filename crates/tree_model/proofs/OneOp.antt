@@ -7,7 +7,7 @@ use Rattle.std.proofs.lemmas.Bool.{false≢true}
 use Rattle.fid_space.specs.FidText.{fid_text}
 use Rattle.fid_space.proofs.FidTexts.{one_fid}
 use Rattle.tree_model.specs.Names.{name_word}
-use Rattle.tree_model.specs.ReplyText.{hex_text}
+use Rattle.fid_space.specs.HexText.{hex_text}
 use Rattle.tree_model.specs.OpText.{IsOp, op_words, op_text}
 use Rattle.tree_model.specs.declared.op.Op.{Op}
 use Rattle.tree_model.specs.declared.op.Op.TheVariants as ops

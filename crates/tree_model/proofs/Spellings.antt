@@ -6,8 +6,9 @@ use Rattle.std.specs.Cmp.Lexicographic.{pointwise}
 use Rattle.std.proofs.lemmas.Bool.{false≢true, eq-eqb}
 use Rattle.std.proofs.lemmas.Bool.Decides.{nat_tests}
 use Rattle.fid_space.proofs.Splitting.{Lacks, lacks_append}
-use Rattle.tree_model.specs.Names.{AreBytes, is_plain, hex_byte, name_byte, name_word}
-use Rattle.tree_model.specs.ReplyText.{hex_text}
+use Rattle.fid_space.specs.HexText.{hex_byte}
+use Rattle.tree_model.specs.Names.{AreBytes, is_plain, name_byte, name_word}
+use Rattle.fid_space.specs.HexText.{hex_text}
 
 -- what holds of an option's value
 pub at_some : {A : Type 0} (P : A → Type 0) (r : Option A) (v : A) → r ≡ Some v → IfSome r P → P v

@@ -1,5 +1,5 @@
 -- The text of a tree from the two maps that keep it.
-use Rattle.std.proofs.Common.{◌≡◌, ℕ, Bool, true, false, ◌&&◌, T, map, List, [], ◌∷◌, ◌++◌, length, sym, ap, ◌∙◌, subst, append_assoc}
+use Rattle.std.proofs.Common.{◌≡◌, ℕ, Bool, true, false, ◌&&◌, T, map, List, [], ◌∷◌, ◌++◌, length, sym, ap, ◌∙◌, subst}
 use Rattle.std.specs.declared.cmp.Ordering.{Ordering}
 use Rattle.std.specs.declared.cmp.Ordering.TheVariants.{Less}
 use Rattle.std.specs.Ordering.{is_lt}
@@ -11,7 +11,8 @@ use Rattle.std.specs.FinMap.Entries.{below_all}
 use Rattle.std.proofs.lemmas.Map.Lookups.{CmpEqualImpliesEq}
 use Rattle.fid_space.specs.declared.fid.Fid.{Fid}
 use Rattle.tree_model.specs.declared.node.Node.{Node}
-use Rattle.tree_model.specs.Tree.{Tree, Names}
+use Rattle.tree_model.specs.Tree.{Tree, Names, Grown, made, fid_cmp}
+use Rattle.tree_model.proofs.Maps.{fids_total, exact_fids}
 use Rattle.tree_model.specs.TreeText.{tree_head, tree_text, entry_count, node_text, names_text, xattrs_text}
 
 both : (a b : Bool) → T a → T b → T (a && b)
@@ -37,15 +38,18 @@ module _ {K X : Type 0} (R : K → K → Ordering) where
   pub len_again : IsTotalOrder R → CmpEqualImpliesEq R → (es : List (K × X)) → IsStrictlySortedBy R (map (λ (e : K × X). e.0) es) → len (from_entries {R = R} es) ≡ length es
   len_again total exact es h = len-entries (from_entries {R = R} es) ∙ ap length (entries_again total exact es h)
 
--- the parts of a text, one after another
-pub parts : (out : List ℕ) (t : Tree) (nodes : List (Fid × Node)) (places : List (Fid × Names)) → entries t.nodes ≡ nodes → entries t.entries ≡ places
-    → (((out ++ tree_head (length nodes) (entry_count places)) ++ flat_map node_text nodes) ++ flat_map names_text places) ++ flat_map xattrs_text nodes ≡ out ++ tree_text t
+-- the parts of a tree's text, from the lists that its maps are made of
+abbrev pub laid_out : List (Fid × Node) → List (Fid × Names) → List ℕ
+laid_out nodes places = tree_head (length nodes) (entry_count places) ++ (flat_map node_text nodes ++ (flat_map names_text places ++ flat_map xattrs_text nodes))
+
+parts : (t : Tree) (nodes : List (Fid × Node)) (places : List (Fid × Names)) → entries t.nodes ≡ nodes → entries t.entries ≡ places → laid_out nodes places ≡ tree_text t
 unfolding tree_text
-parts out t nodes places n p =
-    let text : List (Fid × Node) → List (Fid × Names) → List ℕ = λ ns ps. tree_head (length ns) (entry_count ps) ++ (flat_map node_text ns ++ (flat_map names_text ps ++ flat_map xattrs_text ns)) in
-    let counted : tree_text t ≡ text (entries t.nodes) (entries t.entries) =
+parts t nodes places n p =
+    let counted : tree_text t ≡ laid_out (entries t.nodes) (entries t.entries) =
     ap (λ k. tree_head k (entry_count (entries t.entries)) ++ (flat_map node_text (entries t.nodes) ++ (flat_map names_text (entries t.entries) ++ flat_map xattrs_text (entries t.nodes)))) (len-entries t.nodes) in
-    append_assoc ((out ++ tree_head (length nodes) (entry_count places)) ++ flat_map node_text nodes) (flat_map names_text places) (flat_map xattrs_text nodes)
-    ∙ append_assoc (out ++ tree_head (length nodes) (entry_count places)) (flat_map node_text nodes) (flat_map names_text places ++ flat_map xattrs_text nodes)
-    ∙ append_assoc out (tree_head (length nodes) (entry_count places)) (flat_map node_text nodes ++ (flat_map names_text places ++ flat_map xattrs_text nodes))
-    ∙ ap (λ l. out ++ l) (sym (counted ∙ ap (λ ns. text ns (entries t.entries)) n ∙ ap (λ ps. text nodes ps) p))
+    sym (counted ∙ ap (λ ns. laid_out ns (entries t.entries)) n ∙ ap (λ ps. laid_out nodes ps) p)
+
+pub text_again : (g : Grown) (targets : ℕ) (nodes : List (Fid × Node)) (places : List (Fid × Names)) → record { targets = targets; tree = made nodes places } ≡ g
+    → IsStrictlySortedBy fid_cmp (map (λ (e : Fid × Node). e.0) nodes) → IsStrictlySortedBy fid_cmp (map (λ (e : Fid × Names). e.0) places) → laid_out nodes places ≡ tree_text g.tree
+text_again g targets nodes places is n p =
+    parts (made nodes places) nodes places (entries_again fid_cmp fids_total exact_fids nodes n) (entries_again fid_cmp fids_total exact_fids places p) ∙ ap (λ (h : Grown). tree_text h.tree) is

@@ -8,7 +8,9 @@ use Rattle.std.specs.FinMap.{get, insert, remove, empty, len, get-insert, get-re
 use Rattle.std.proofs.lemmas.Bool.Decides.{eqb_tells}
 use Rattle.fid_space.specs.declared.fid.Fid.{Fid}
 use Rattle.tree_model.specs.Tree.{Tree, Names, fid_cmp, name_cmp, same_fid, same_name, names_of, named}
-use Rattle.tree_model.specs.Changes.{Change, PutNode, DropNode, PutName, DropName, NewLayout, NextLayout, changed_all, with_names}
+use Rattle.tree_model.specs.Changes.{Change, PutNode, DropNode, PutName, DropName, NewLayout, NextLayout, MoveNames, changed, changed_all, with_names}
+use Rattle.tree_model.specs.Effects.{node_after, names_after, name_after, layout_after}
+use Rattle.tree_model.specs.declared.node.Node.{Node}
 use Rattle.tree_model.specs.Keys.{Key, NodeKey, NameKey, AllKey, Value, NodeValue, NameValue, AllValue, Layout, Laid, meets, at, layout_at, layout_with, plain_layout, laid_after, laid_after_all, keys_of, keys_of_all}
 use Rattle.tree_model.specs.Kept.{Misses}
 use Rattle.tree_model.proofs.Maps.{fids_total, names_total}
@@ -156,3 +158,60 @@ unmet_after l (c ∷ cs) k h =
 pub tree_after : (l : Laid) (cs : List Change) → (laid_after_all l cs).tree ≡ changed_all l.tree cs
 tree_after l [] = refl
 tree_after l (c ∷ cs) = tree_after (laid_after l c) cs
+
+-- WHAT STANDS AFTER A CHANGE
+
+abbrev node_in : Value → Option Node
+node_in (NodeValue n l) = n
+node_in v = None
+
+abbrev layout_in : Value → Layout
+layout_in (NodeValue n l) = l
+layout_in v = plain_layout
+
+abbrev name_in : Value → Option Fid
+name_in (NameValue f) = f
+name_in v = None
+
+abbrev names_in : Value → Names
+names_in (AllValue m) = m
+names_in v = empty
+
+abbrev bare : Tree → Laid
+bare t = record { tree = t; layouts = empty }
+
+pub nodes_after_is : (t : Tree) (c : Change) (f : Fid) → get (changed t c).nodes f ≡ node_after c f (get t.nodes f)
+nodes_after_is t (PutNode g n) f = ap node_in (takes_effect (bare t) (PutNode g n) (NodeKey f))
+nodes_after_is t (DropNode g) f = ap node_in (takes_effect (bare t) (DropNode g) (NodeKey f))
+nodes_after_is t (PutName d x g) f = refl
+nodes_after_is t (DropName d x) f = refl
+nodes_after_is t (NewLayout d c i) f = refl
+nodes_after_is t (NextLayout d c i) f = refl
+nodes_after_is t (MoveNames d) f = refl
+
+pub names_after_is : (t : Tree) (c : Change) (d : Fid) → names_of (changed t c) d ≡ names_after c d (names_of t d)
+names_after_is t (PutNode g n) d = refl
+names_after_is t (DropNode g) d = refl
+names_after_is t (PutName e x g) d = ap names_in (takes_effect (bare t) (PutName e x g) (AllKey d))
+names_after_is t (DropName e x) d = ap names_in (takes_effect (bare t) (DropName e x) (AllKey d))
+names_after_is t (NewLayout e c i) d = refl
+names_after_is t (NextLayout e c i) d = refl
+names_after_is t (MoveNames e) d = refl
+
+pub name_after_is : (t : Tree) (c : Change) (d : Fid) (y : List ℕ) → named (changed t c) d y ≡ name_after c d y (named t d y)
+name_after_is t (PutNode g n) d y = refl
+name_after_is t (DropNode g) d y = refl
+name_after_is t (PutName e x g) d y = ap name_in (takes_effect (bare t) (PutName e x g) (NameKey d y))
+name_after_is t (DropName e x) d y = ap name_in (takes_effect (bare t) (DropName e x) (NameKey d y))
+name_after_is t (NewLayout e c i) d y = refl
+name_after_is t (NextLayout e c i) d y = refl
+name_after_is t (MoveNames e) d y = refl
+
+pub layouts_after_is : (l : Laid) (c : Change) (f : Fid) → layout_at (laid_after l c) f ≡ layout_after c f (layout_at l f)
+layouts_after_is l (PutNode g n) f = refl
+layouts_after_is l (DropNode g) f = ap layout_in (takes_effect l (DropNode g) (NodeKey f))
+layouts_after_is l (PutName d x g) f = refl
+layouts_after_is l (DropName d x) f = refl
+layouts_after_is l (NewLayout d c i) f = ap layout_in (takes_effect l (NewLayout d c i) (NodeKey f))
+layouts_after_is l (NextLayout d c i) f = ap layout_in (takes_effect l (NextLayout d c i) (NodeKey f))
+layouts_after_is l (MoveNames d) f = refl

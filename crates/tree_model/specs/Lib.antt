@@ -15,3 +15,6 @@ pub mod OpReading
 pub mod ReplyText
 pub mod TreeText
 pub mod Codes
+pub mod Effects
+pub mod Errnos
+pub mod Worked

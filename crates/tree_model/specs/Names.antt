@@ -1,7 +1,7 @@
 -- What may name an entry, and how a name is spelled in a text.
-use Rattle.std.specs.Prelude.{◌≢◌, ℕ, ◌≤◌, ◌<◌, ◌/◌, ◌%◌, ◌&&◌, ◌==◌, Bool, false, not, nat_le, List, [], ◌∷◌, length, codes, if◌then◌else◌}
+use Rattle.std.specs.Prelude.{◌≢◌, ℕ, ◌≤◌, ◌<◌, ◌&&◌, ◌==◌, Bool, not, nat_le, List, [], ◌∷◌, length, codes, if◌then◌else◌}
 use Rattle.std.specs.List.{flat_map, AllByRecursion}
-use Rattle.std.specs.Fmt.{digit_glyph}
+use Rattle.fid_space.specs.HexText.{hex_byte}
 
 abbrev pub AreBytes : List ℕ → Type 0
 AreBytes n = AllByRecursion (λ b. b < 256) n
@@ -14,10 +14,6 @@ IsName n =
 -- a byte that stands for itself in a spelled name: 0x21 to 0x7e, but for `%`
 abbrev pub is_plain : ℕ → Bool
 is_plain b = nat_le 0x21 b && nat_le b 0x7e && not (b == 0x25)
-
--- a byte in two lower-case hexadecimal digits
-abbrev pub hex_byte : ℕ → List ℕ
-hex_byte b = digit_glyph false (b / 16) ∷ digit_glyph false (b % 16) ∷ []
 
 -- a byte of a name, as it is spelled
 abbrev pub name_byte : ℕ → List ℕ

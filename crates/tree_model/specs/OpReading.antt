@@ -6,7 +6,7 @@ use Rattle.fid_space.specs.declared.fid.Fid.{Fid}
 use Rattle.fid_space.specs.FidText.{fid_text, IsFid}
 use Rattle.fid_space.specs.Places.{has_place}
 use Rattle.tree_model.specs.Names.{IsName, name_word}
-use Rattle.tree_model.specs.ReplyText.{hex_text}
+use Rattle.fid_space.specs.HexText.{hex_text}
 use Rattle.tree_model.specs.OpText.{IsPlaced, IsXattrValue}
 use Rattle.tree_model.specs.declared.op.OpKind.{OpKind}
 use Rattle.tree_model.specs.declared.op.OpKind.TheVariants as kinds

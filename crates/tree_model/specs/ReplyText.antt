@@ -1,9 +1,8 @@
 -- The one text of a reply.
-use Rattle.std.specs.Prelude.{ℕ, ◌/◌, ◌%◌, Bool, true, false, List, [], ◌∷◌, ◌++◌, codes}
-use Rattle.std.specs.List.{flat_map}
+use Rattle.std.specs.Prelude.{ℕ, ◌/◌, ◌%◌, Bool, true, false, List, ◌++◌, codes}
 use Rattle.std.specs.Fmt.{decimal}
 use Rattle.fid_space.specs.FidText.{fid_text}
-use Rattle.tree_model.specs.Names.{hex_byte}
+use Rattle.fid_space.specs.HexText.{hex_text}
 use Rattle.tree_model.specs.declared.reply.Reply.{Reply}
 use Rattle.tree_model.specs.declared.reply.Reply.TheVariants as replies
 use Rattle.tree_model.specs.declared.errno.Errno.{Errno}
@@ -35,11 +34,6 @@ mode_text mode = decimal (mode / 512 % 8) ++ (decimal (mode / 64 % 8) ++ (decima
 abbrev pub attr_text : Bool → ℕ → ℕ → ℕ → ℕ → List ℕ
 attr_text dir mode uid gid links =
     kind_word dir ++ (codes " " ++ (mode_text mode ++ (codes " " ++ (decimal uid ++ (codes " " ++ (decimal gid ++ (codes " " ++ decimal links)))))))
-
--- two digits a byte, or a dash for none
-abbrev pub hex_text : List ℕ → List ℕ
-hex_text [] = codes "-"
-hex_text (b ∷ bs) = flat_map hex_byte (b ∷ bs)
 
 abbrev pub reply_text : Reply → List ℕ
 reply_text replies.Ok = codes "OK"

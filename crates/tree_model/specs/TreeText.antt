@@ -7,7 +7,8 @@ use Rattle.fid_space.specs.declared.fid.Fid.{Fid}
 use Rattle.fid_space.specs.FidText.{fid_text}
 use Rattle.tree_model.specs.declared.node.Node.{Node}
 use Rattle.tree_model.specs.Names.{name_word}
-use Rattle.tree_model.specs.ReplyText.{attr_text, hex_text}
+use Rattle.fid_space.specs.HexText.{hex_text}
+use Rattle.tree_model.specs.ReplyText.{attr_text}
 use Rattle.tree_model.specs.Tree.{Tree, Names}
 
 abbrev pub node_text : Fid × Node → List ℕ

@@ -1,7 +1,8 @@
 ghost use Rattle.std.specs.Prelude.{◌≡◌};
 ghost use Rattle.tree_model.specs.ReplyText.{errno_word};
+ghost use Rattle.tree_model.specs.Errnos.{errno_code};
 
-/// Why an operation was refused: an error of POSIX `errno.h`. `errno as u32` is its number in Linux.
+/// Why an operation was refused: an error of POSIX `errno.h`.
 #[derive(Clone, Copy, Debug, PartialEq, Eq)]
 pub enum Errno {
     EPERM = 1,
@@ -19,6 +20,13 @@ pub enum Errno {
 }
 
 impl Errno {
+    /// The number that Linux gives the error.
+    pub fn code(self) -> u32
+        ensures { result ≡ errno_code self }
+    {
+        self as u32
+    }
+
     /// The name in `errno.h`, in capitals.
     pub fn word(self) -> &'static str
         ensures { result.now ≡ errno_word self }

@@ -7,7 +7,7 @@ ghost use Rattle.tree_model.specs.OpText.{IsOp, op_text};
 ghost use Rattle.tree_model.specs.Tree.{Tree};
 ghost use Rattle.tree_model.specs.Step.{step};
 ghost use Rattle.tree_model.specs.History.{Item, tree_from, tree_of, IsLegal};
-ghost use Rattle.tree_model.specs.Laws.{StepIsDecided, OnlyLooksMatter, SameTargets, SameChange, OnlyWrittenChange, LayoutsAreBeside, ClosedPartsAgree, WrittenIsLookedAt};
+ghost use Rattle.tree_model.specs.Laws.{StepIsDecided, OnlyLooksMatter, SameTargets, SameChange, OnlyWrittenChange, LayoutsAreBeside, ClosedPartsAgree, WrittenIsLookedAt, ChangesUnlessRefused, NodesAfter, NamesAfter, NameAfter, LayoutsAfter, OthersKeepTheirNames, OneTarget};
 
 /// Two operations with one text are one operation, also where their clusters differ.
 pub fn one_text_per_operation()
@@ -68,4 +68,23 @@ pub fn a_closed_part_agrees()
 /// Written is looked at: an operation looks at each key that it writes.
 pub fn written_is_looked_at()
     ensures looked { WrittenIsLookedAt }
+{}
+
+/// An operation makes its changes where no check fails, and else none.
+pub fn a_check_that_fails_leaves_no_change()
+    ensures changes { ChangesUnlessRefused }
+{}
+
+/// What stands after a change: nodes, names and layouts, each from what stood there before.
+pub fn changes_take_effect()
+    ensures nodes { NodesAfter }
+    ensures names { NamesAfter }
+    ensures name { NameAfter }
+    ensures layouts { LayoutsAfter }
+    ensures others { OthersKeepTheirNames }
+{}
+
+/// In a cluster of one target each operation is on that target alone.
+pub fn one_target_has_all_operations()
+    ensures one { OneTarget }
 {}

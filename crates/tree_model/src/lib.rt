@@ -20,16 +20,16 @@ mod reading;
 mod reply;
 mod spelling;
 #[cfg(test)]
-mod step_tests;
-#[cfg(test)]
 mod tests;
 mod text;
+mod worked;
 
 pub use directory::Entries;
 pub use errno::Errno;
 pub use laws::{
-    a_closed_part_agrees, a_legal_history_goes_on, a_refused_operation_changes_nothing,
-    layouts_are_beside_the_tree, one_text_per_operation, only_looks_matter,
+    a_check_that_fails_leaves_no_change, a_closed_part_agrees, a_legal_history_goes_on,
+    a_refused_operation_changes_nothing, changes_take_effect, layouts_are_beside_the_tree,
+    one_target_has_all_operations, one_text_per_operation, only_looks_matter,
     only_written_keys_change, the_step_is_decided_by_looks, the_tree_of_one_more,
     written_is_looked_at,
 };
@@ -39,3 +39,4 @@ pub use op::{Op, OpFault, OpKind, Request};
 pub use plain_tree::PlainTree;
 pub use reading::{number, words};
 pub use reply::Reply;
+pub use worked::{worked_layouts, worked_parts, worked_targets};

@@ -15,7 +15,7 @@ use std::marker::Model;
 
 /// The name of an entry: 1 to 255 bytes without NUL and `/`, and neither `.` nor `..`. POSIX calls it a
 /// filename; 255 bytes are the most that the Lustre Operations Manual allows. Names are ordered by bytes.
-#[derive(Debug, Drop)]
+#[derive(Clone, Debug, Drop)]
 pub struct Name {
     inner: Vec<u8>,
 }

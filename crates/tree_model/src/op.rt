@@ -1,4 +1,4 @@
-ghost use Rattle.std.specs.Prelude.{◌≡◌, ◌≢◌, ◌++◌, ◌∷◌, [], ℕ, List, map, IfOk, IfErr, IsErr, OnOk};
+ghost use Rattle.std.specs.Prelude.{◌≡◌, ◌≢◌, ◌++◌, ◌∷◌, [], ℕ, List, map, IfOk, IfErr, IsErr, OnOk, OnErr};
 ghost use Rattle.tree_model.specs.OpText.{op_words, op_text, IsOp};
 ghost use Rattle.tree_model.specs.OpReading.{IsOpFault};
 ghost use Rattle.tree_model.specs.Participants.{first_fid};
@@ -14,7 +14,7 @@ use fid_space::{Bytes, Cluster, Fid};
 use std::alloc::{AllocError as Memory, Global};
 
 /// An operation on the tree. The client chooses the FID of a new node.
-#[derive(Debug, Drop)]
+#[derive(Clone, Debug, Drop)]
 pub enum Op {
     /// Makes a file and its entry, as POSIX `open` does with `O_CREAT` and `O_EXCL`.
     Create {
@@ -188,10 +188,20 @@ impl Op {
         }
     }
 
-    /// Adds the text. After want of memory a front of it may have been added.
+    /// Adds the text. Want of memory adds nothing.
     pub fn print(&self, out: &mut Bytes) -> Result<(), Memory>
-        ensures { OnOk result (out.new ≡ out.old ++ op_text self.now) }
+        ensures ok { OnOk result (out.new ≡ out.old ++ op_text self.now) }
+        ensures err { OnErr result (out.new ≡ out.old) }
     {
-        print_op(self, out)
+        let mut text = Bytes::new(out.alloc());
+        print_op(self, &mut text)?;
+        out.append(text.bytes())
+    }
+
+    /// A copy with memory of its own.
+    pub fn copy(&self) -> Result<Op, Memory>
+        ensures { IfOk result (λ op. op ≡ self.now) }
+    {
+        self.clone()
     }
 }

@@ -2,16 +2,16 @@ ghost use Rattle.std.specs.Prelude.{◌≡◌, ◌++◌, ◌∷◌, [], codes, L
 ghost use Rattle.std.specs.Fmt.{decimal};
 ghost use Rattle.fid_space.specs.FidText.{fid_text};
 ghost use Rattle.tree_model.specs.Names.{name_word};
-ghost use Rattle.tree_model.specs.ReplyText.{hex_text};
+ghost use Rattle.fid_space.specs.HexText.{hex_text};
 ghost use Rattle.tree_model.specs.OpText.{op_text, stripes_words};
 
 use crate::name::Name;
 use crate::op::Op;
-use crate::spelling::{print_hex, print_name};
-use fid_space::{Bytes, Fid};
+use crate::spelling::print_name;
+use fid_space::{Bytes, Fid, print_hex, print_number};
 use std::alloc::AllocError as Memory;
 
-/// Adds the text of an operation. After want of memory a front of it may have been added.
+/// Adds the text of an operation, after want of memory some of it.
 pub fn print_op(op: &Op, out: &mut Bytes) -> Result<(), Memory>
     ensures { OnOk result (out.new ≡ out.old ++ op_text op.now) }
 {
@@ -50,7 +50,7 @@ pub fn print_op(op: &Op, out: &mut Bytes) -> Result<(), Memory>
             gid,
         } => {
             print_fid(b"setattr ", *fid, out)?;
-            print_number(u32::from(*mode), out)?;
+            print_spaced(u32::from(*mode), out)?;
             print_numbers(*uid, *gid, out)?;
             Ok(())
         }
@@ -109,19 +109,19 @@ fn print_made(
 }
 
 /// Adds a space and a number.
-fn print_number(number: u32, out: &mut Bytes) -> Result<(), Memory>
+fn print_spaced(number: u32, out: &mut Bytes) -> Result<(), Memory>
     ensures { OnOk result (out.new ≡ out.old ++ (codes " " ++ decimal number)) }
 {
-    let alloc = out.alloc();
-    let text = format!(in alloc; " {number}")?;
-    out.append(text.as_bytes())
+    out.push(b' ')?;
+    print_number(u64::from(number), out)?;
+    Ok(())
 }
 
 /// Adds two numbers, each with a space before it.
 fn print_numbers(first: u32, second: u32, out: &mut Bytes) -> Result<(), Memory>
     ensures { OnOk result (out.new ≡ out.old ++ (codes " " ++ (decimal first ++ (codes " " ++ decimal second)))) }
 {
-    print_number(first, out)?;
-    print_number(second, out)?;
+    print_spaced(first, out)?;
+    print_spaced(second, out)?;
     Ok(())
 }

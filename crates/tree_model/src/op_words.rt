@@ -3,7 +3,7 @@ ghost use Rattle.std.specs.Fmt.{decimal};
 ghost use Rattle.fid_space.specs.FidText.{fid_text, IsFid};
 ghost use Rattle.fid_space.specs.declared.fid.Fid.{Fid};
 ghost use Rattle.tree_model.specs.Names.{IsName, name_word};
-ghost use Rattle.tree_model.specs.ReplyText.{hex_text};
+ghost use Rattle.fid_space.specs.HexText.{hex_text};
 ghost use Rattle.tree_model.specs.OpText.{op_words, IsOp, IsPlaced, IsXattrValue};
 ghost use Rattle.tree_model.specs.OpReading.{kind_word, forms, Field, FidField, NameField, HexField, NumberField, u32_field, IsGood, IsBad, IsFirstBad, IsKindFault, IsOpFault};
 ghost use Rattle.tree_model.specs.declared.op.Op.{Op};

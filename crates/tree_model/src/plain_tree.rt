@@ -2,6 +2,7 @@ ghost use Rattle.std.specs.Prelude.{◌≡◌, ◌++◌, IfOk, OnOk, OnErr};
 ghost use Rattle.std.specs.Option.{option_map};
 ghost use Rattle.std.specs.FinMap as map;
 ghost use Rattle.tree_model.specs.Tree.{Tree, Grown, base, named, names_of};
+ghost use Rattle.fid_space.specs.Fronts.{IsFront};
 ghost use Rattle.tree_model.specs.TreeText.{tree_text};
 ghost use Rattle.tree_model.specs.Changes.{Change, changed, changed_all, taken_name};
 ghost use Rattle.tree_model.specs.Step.{step, changed_node, released};
@@ -73,9 +74,10 @@ impl PlainTree {
     }
 
     /// Adds the text: a line with the counts, then nodes by their FIDs, entries by directory and name,
-    /// and extended attributes by FID and name. After want of memory a front of it may have been added.
+    /// and extended attributes by FID and name. Want of memory leaves a front of it.
     pub fn print(&self, out: &mut Bytes) -> Result<(), Memory>
-        ensures { OnOk result (out.new ≡ out.old ++ tree_text self.now.tree) }
+        ensures ok { OnOk result (out.new ≡ out.old ++ tree_text self.now.tree) }
+        ensures front { OnErr result (IsFront out.old out.new (tree_text self.now.tree)) }
     {
         print_head(&self.nodes, &self.directories, out)?;
         print_nodes(&self.nodes, out)?;

@@ -1,10 +1,10 @@
-ghost use Rattle.std.specs.Prelude.{◌≡◌, ◌++◌, OnOk};
+ghost use Rattle.std.specs.Prelude.{◌≡◌, ◌++◌, OnOk, OnErr};
+ghost use Rattle.fid_space.specs.HexText.{hex_text};
 ghost use Rattle.tree_model.specs.ReplyText.{reply_text};
 
 use crate::errno::Errno;
-use crate::spelling::print_hex;
 use crate::text::print_attr;
-use fid_space::{Bytes, Fid};
+use fid_space::{Bytes, Fid, print_hex};
 use std::alloc::AllocError as Memory;
 
 /// The answer to an operation.
@@ -30,9 +30,10 @@ pub enum Reply {
 
 impl Reply {
     /// Adds the text: `OK`, a FID, a node's attributes, a value in hexadecimal digits, or the name of the
-    /// error. After want of memory a front of it may have been added.
+    /// error. Want of memory adds nothing.
     pub fn print(&self, out: &mut Bytes) -> Result<(), Memory>
-        ensures { OnOk result (out.new ≡ out.old ++ reply_text self.now) }
+        ensures ok { OnOk result (out.new ≡ out.old ++ reply_text self.now) }
+        ensures err { OnErr result (out.new ≡ out.old) }
     {
         match self {
             Reply::Ok => out.append(b"OK"),
@@ -44,8 +45,18 @@ impl Reply {
                 gid,
                 links,
             } => print_attr(*dir, *mode, *uid, *gid, *links, out),
-            Reply::Value(value) => print_hex(value.bytes(), out),
+            Reply::Value(value) => print_value(value, out),
             Reply::Err(errno) => out.append(errno.word().as_bytes()),
         }
     }
+}
+
+/// Adds a value in hexadecimal digits. Want of memory adds nothing.
+fn print_value(value: &Bytes, out: &mut Bytes) -> Result<(), Memory>
+    ensures ok { OnOk result (out.new ≡ out.old ++ hex_text value.now) }
+    ensures err { OnErr result (out.new ≡ out.old) }
+{
+    let mut digits = Bytes::new(out.alloc());
+    print_hex(value.bytes(), &mut digits)?;
+    out.append(digits.bytes())
 }

@@ -1,6 +1,6 @@
 use Rattle.std.proofs.Common.{◌≡◌, length, ap, ◌∙◌, sym, arith}
 use Rattle.tree_model.specs.Names.{AreBytes}
-use Rattle.tree_model.specs.ReplyText.{hex_text}
+use Rattle.fid_space.specs.HexText.{hex_text}
 use Rattle.tree_model.proofs.Spellings.{at_some, one_hex}
 use Rattle.tree_model.proofs.op_words.value_of.Goals as goal
 

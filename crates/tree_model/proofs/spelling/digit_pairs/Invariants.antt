@@ -1,6 +1,7 @@
 use Rattle.std.proofs.Common.{◌≡◌, ◌++◌, length}
 use Rattle.std.specs.List.{flat_map}
-use Rattle.tree_model.specs.Names.{AreBytes, hex_byte}
+use Rattle.fid_space.specs.HexText.{hex_byte}
+use Rattle.tree_model.specs.Names.{AreBytes}
 use Rattle.tree_model.proofs.spelling.digit_pairs.Given as goal
 
 abbrev pub invariant-loop-rest : goal.invariant-loop-rest

@@ -1,7 +1,0 @@
-use Rattle.std.proofs.Common.{◌≡◌, ◌++◌, drop}
-use Rattle.std.specs.List.{flat_map}
-use Rattle.tree_model.specs.Names.{hex_byte}
-use Rattle.tree_model.proofs.spelling.print_digits.Given as goal
-
-abbrev pub invariant-loop-b : goal.invariant-loop-b
-invariant-loop-b l = l.out ++ flat_map hex_byte (drop l.b-index l.bytes) ≡ l.fn.out ++ flat_map hex_byte l.bytes

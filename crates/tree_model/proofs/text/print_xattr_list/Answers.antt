@@ -1,0 +1,29 @@
+use Rattle.std.proofs.Common.{List, ℕ, ◌++◌, ap, sym, subst, ◌≡◌, rules}
+use Rattle.std.specs.List.{flat_map}
+use Rattle.std.specs.Map.Iter.{deref_pair}
+use Rattle.std.proofs.lemmas.Map.Iter.{rest_more, rest_all}
+use Rattle.tree_model.specs.TreeText.{xattr_text}
+use Rattle.tree_model.proofs.Fronts.{SoFar, anyway, begun, more, ended, stopped}
+use Rattle.tree_model.proofs.text.print_xattr_list.Goals as goal
+
+pub loop-name-init : goal.loop-name-init
+loop-name-init c =
+    let all : c.into_iter-name-iterator.result ≡ c.args.xattrs.now.entries = search rules in
+    subst (λ es. SoFar c.args.out.now c.args.out.now (flat_map (xattr_text c.args.fid) c.into_iter-name-iterator.result) (flat_map (xattr_text c.args.fid) es)) all (begun _ _)
+
+pub loop-name-preserved : goal.loop-name-preserved
+loop-name-preserved c =
+    let left = rest_more deref_pair c.loop-name.name-iterator c.next.new.self c.next.result (c.in-Some.name, c.in-Some.value) c.in-Some.is c.next.ensures.steps in
+    let s = subst (λ es. SoFar c.args.out.now c.loop-name.out (flat_map (xattr_text c.args.fid) es) (flat_map (xattr_text c.args.fid) c.args.xattrs.now.entries)) left c.loop-name.invariant in
+    more _ _ _ _ _ _ s c.in_ok-print_xattr.ensures.ok
+
+pub returns-in_err-print_xattr-clause-front : goal.returns-in_err-print_xattr-clause-front
+returns-in_err-print_xattr-clause-front c =
+    let left = rest_more deref_pair c.loop-name.name-iterator c.next.new.self c.next.result (c.in-Some.name, c.in-Some.value) c.in-Some.is c.next.ensures.steps in
+    let s = subst (λ es. SoFar c.args.out.now c.loop-name.out (flat_map (xattr_text c.args.fid) es) (flat_map (xattr_text c.args.fid) c.args.xattrs.now.entries)) left c.loop-name.invariant in
+    anyway _ (stopped _ _ _ _ _ s c.in_err-print_xattr.ensures.err)
+
+pub returns-clause-ok : goal.returns-clause-ok
+returns-clause-ok c =
+    let none = rest_all deref_pair c.loop-name.name-iterator c.next.new.self c.next.result c.in-None.is c.next.ensures.steps in
+    ended _ _ _ (subst (λ es. SoFar c.args.out.now c.loop-name.out (flat_map (xattr_text c.args.fid) es) (flat_map (xattr_text c.args.fid) c.args.xattrs.now.entries)) none c.loop-name.invariant)

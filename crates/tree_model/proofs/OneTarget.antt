@@ -1,5 +1,5 @@
 -- In a cluster of one target each operation is on that target alone.
-use Rattle.std.proofs.Common.{◌≡◌, ◌==◌, ◌&&◌, ◌<◌, ◌+◌, ◌-◌, ◌/◌, ◌%◌, nat_le, nat_lt, ℕ, zero, suc, Bool, true, false, cond, is_some, Option, Some, None, List, [], ◌∷◌, refl, sym, ap, ◌∙◌, arith}
+use Rattle.std.proofs.Common.{◌≡◌, ◌==◌, ◌<◌, ◌+◌, ◌-◌, ◌/◌, ◌%◌, nat_lt, ℕ, zero, suc, Bool, true, false, cond, is_some, Some, None, List, [], ◌∷◌, refl, sym, ap, ◌∙◌, arith}
 use Rattle.std.proofs.lemmas.Bool.Decides.{nat_tests}
 use Rattle.fid_space.specs.declared.fid.Fid.{Fid}
 use Rattle.fid_space.specs.Places.{base_of, in_range, place_of, has_place}
@@ -10,8 +10,8 @@ use Rattle.tree_model.specs.Changes.{Change, PutNode, DropNode, PutName, DropNam
 use Rattle.tree_model.specs.Keys.{Layout, Laid, layout_at, layout_with}
 use Rattle.tree_model.specs.Looks.{changes}
 use Rattle.tree_model.specs.OpText.{IsOp}
-use Rattle.tree_model.specs.Participants.{first_fid, home_of, with_place}
-use Rattle.tree_model.specs.Striped.{stripe_target, entry_place, with_stripes, with_change, with_changes, on}
+use Rattle.tree_model.specs.Participants.{first_fid, with_place}
+use Rattle.tree_model.specs.Striped.{entry_place, with_stripes, with_change, with_changes, on}
 
 -- where a FID lives, it lives on target 0
 lives : (f : Fid) (b : Bool) → in_range 1 f ≡ b → cond b (Some ((f.seq - base_of 0) / 0x100000)) None ≡ cond b (Some 0) None

@@ -1,5 +1,5 @@
 -- Worked scenarios, by what stands after each change.
-use Rattle.std.proofs.Common.{◌≡◌, ◌==◌, ◌⊎◌, inl, inr, ⊎_elim, ℕ, suc, Bool, true, false, cond, if◌then◌else◌, nat_lt, Option, Some, None, List, [], ◌∷◌, ◌++◌, codes, refl, sym, ap, ◌∙◌, subst, arith}
+use Rattle.std.proofs.Common.{◌≡◌, inl, ⊎_elim, ℕ, suc, true, false, cond, if◌then◌else◌, nat_lt, Option, Some, None, List, [], ◌∷◌, codes, refl, sym, ap, ◌∙◌, subst}
 use Rattle.std.specs.Ordering.{eq_by_cmp}
 use Rattle.std.specs.Option.{unwrap_or}
 use Rattle.std.specs.FinMap.{get, insert, len, empty, get-empty, get-insert, len-empty}
@@ -8,21 +8,20 @@ use Rattle.fid_space.specs.Places.{place_of}
 use Rattle.tree_model.specs.declared.node.Node.{Node}
 use Rattle.tree_model.specs.declared.op.Op.{Op}
 use Rattle.tree_model.specs.declared.op.Op.TheVariants as ops
-use Rattle.tree_model.specs.declared.reply.Reply.{Reply}
 use Rattle.tree_model.specs.declared.reply.Reply.TheVariants as replies
 use Rattle.tree_model.specs.declared.errno.Errno.{Errno}
 use Rattle.tree_model.specs.declared.errno.Errno.TheVariants.{ENOTDIR, EINVAL, EFBIG}
 use Rattle.tree_model.specs.Tree.{Tree, Names, base, fid_cmp, name_cmp, same_fid, names_of, named, root_fid, root_node, file_node, directory_in}
-use Rattle.tree_model.specs.Changes.{Change, PutNode, PutName, NewLayout, NextLayout, MoveNames, changed, changed_all}
-use Rattle.tree_model.specs.Step.{step, checked, op_fault, op_changes, op_reply, first_fault, client_fault, layout_fault, parent_fault, taken_fault, absent_fault, stripes_fault, create_fault, migrate_fault, changed_node}
-use Rattle.tree_model.specs.Keys.{Key, NodeKey, NameKey, Layout, Laid, plain_layout, layout_at, layout_with, laid_base, laid_after, laid_after_all, keys_of_all}
-use Rattle.tree_model.specs.Looks.{Plan, AskNode, AskName, Decide, check, asked, looks, changes, writes}
+use Rattle.tree_model.specs.Changes.{Change, PutNode, PutName, NewLayout, NextLayout, MoveNames, changed_all}
+use Rattle.tree_model.specs.Step.{checked, op_fault, op_changes, first_fault, client_fault, layout_fault, parent_fault, taken_fault, absent_fault, stripes_fault, create_fault, migrate_fault, changed_node}
+use Rattle.tree_model.specs.Keys.{NodeKey, NameKey, Layout, Laid, plain_layout, layout_at, layout_with, laid_base, laid_after, laid_after_all, keys_of_all}
+use Rattle.tree_model.specs.Looks.{AskNode, AskName, Decide, check, asked, looks, changes, writes}
 use Rattle.tree_model.specs.Participants.{home_of, with_place}
 use Rattle.tree_model.specs.Striped.{fnv1a_64, entry_place, with_stripes, with_changes, on}
 use Rattle.tree_model.specs.Kept.{laid_step, laid_of, IsFree, Misses, MissesAll, IsKept}
 use Rattle.tree_model.specs.Laws.{unless}
 use Rattle.tree_model.specs.Effects.{node_after, names_after, layout_after}
-use Rattle.tree_model.specs.Worked.{these, file_fid, other_fid, directory_fid, striped_fid, mkdir_elsewhere, striped_mkdir, create_in_stripe, first_migrate, second_migrate, done, striped, migrated, migrated_twice, two_files, file_behind_setattr, never_done}
+use Rattle.tree_model.specs.Worked.{these, file_fid, other_fid, directory_fid, striped_fid, mkdir_elsewhere, striped_mkdir, create_in_stripe, first_migrate, second_migrate, striped, migrated, migrated_twice, two_files, file_behind_setattr, never_done}
 use Rattle.tree_model.proofs.Maps.{fids_total, names_total}
 use Rattle.tree_model.proofs.Deciding.{changes_decided}
 use Rattle.tree_model.proofs.Writing.{nodes_after_is, names_after_is, layouts_after_is}

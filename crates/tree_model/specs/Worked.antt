@@ -1,6 +1,6 @@
 -- Worked scenarios in a cluster of eight targets: on which targets operations are, which layouts migrates leave,
 -- and which parts of a history may be kept.
-use Rattle.std.specs.Prelude.{ℕ, List, [], ◌∷◌, Option, Some, None, codes}
+use Rattle.std.specs.Prelude.{ℕ, List, [], ◌∷◌, Some, None, codes}
 use Rattle.fid_space.specs.declared.fid.Fid.{Fid}
 use Rattle.fid_space.specs.Targets.{joined}
 use Rattle.tree_model.specs.declared.op.Op.{Op}

@@ -1,4 +1,4 @@
-use Rattle.std.proofs.Common.{subst, ◌++◌, ◌≡◌, ◌∙◌, ap, List, ℕ}
+use Rattle.std.proofs.Common.{subst, ◌++◌, ◌∙◌, ap, List, ℕ}
 use Rattle.fid_space.specs.Fronts.{IsFront}
 use Rattle.fid_space.proofs.Fronts.{front_more}
 use Rattle.tree_model.proofs.Fronts.{begun, more, last, stopped, stopped_in, anyway}

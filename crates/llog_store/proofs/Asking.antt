@@ -1,5 +1,5 @@
 -- What the calls answer, from what is kept.
-use Rattle.std.proofs.Common.{◌≡◌, ℕ, ◌+◌, ◌<◌, ◌≤◌, Bool, true, false, cond, eqb, ltb, leb, List, [], ◌∷◌, ◌++◌, length, Option, None, Ok, Err, refl, sym, ap, subst, ◌∙◌, arith, inl, inr, ◌⊎◌}
+use Rattle.std.proofs.Common.{◌≡◌, ℕ, ◌+◌, ◌*◌, ◌%◌, ◌<◌, ◌≤◌, Bool, true, false, cond, eqb, ltb, leb, List, [], ◌∷◌, ◌++◌, length, Option, None, Ok, Err, refl, sym, ap, subst, ◌∙◌, arith, inl, inr, ◌⊎◌}
 use Rattle.std.proofs.lemmas.Bool.{cases_lt, le-leb, lt-ltb, le-ltb}
 use Rattle.std.proofs.lemmas.Bool.Decides.{eqb_tells, leb_tells}
 use Rattle.llog_store.specs.declared.append.AppendFault.{AppendFault}
@@ -8,10 +8,11 @@ use Rattle.llog_store.specs.declared.place.Place.{Place}
 use Rattle.llog_store.specs.Log.{Log, room, fits_in, record_size, index_of, is_live, log_text}
 use Rattle.llog_store.specs.Kept.{IsKept, marked, lost_before, behind_pad, with_numbers, with_bit, append_fault, Refuses}
 use Rattle.llog_store.specs.Changes.{given_index}
-use Rattle.llog_store.proofs.Chunks.{begins_first, follows_above}
+use Rattle.llog_store.proofs.Fitting.{begins_first, follows_above, fits_false, size_small}
 use Rattle.llog_store.proofs.Whole.{count_below}
-use Rattle.llog_store.proofs.Keeping.{end_is, one_gone}
-use Rattle.llog_store.proofs.Seeing.{length_kept}
+use Rattle.llog_store.proofs.Keeping.{end_is, one_gone, lost_start}
+use Rattle.llog_store.proofs.Seeing.{length_kept, start_inside}
+use Rattle.llog_store.proofs.Room.{long_most}
 
 -- ---- append
 
@@ -21,9 +22,9 @@ next_kept log bytes places next live k =
     let few = count_below 32768 1 log.entries log.next k.is.follows in
     (omega (arith, above, k.next_is), omega (arith, k.is.next, k.next_is), omega (arith, few, k.next_is, k.live_is))
 
-lost_cases : (b : Bool) (rest : ℕ) → 24 ≤ rest → rest ≤ 32768 → (cond b 0 rest ≡ 0) ⊎ ((24 ≤ cond b 0 rest) × (cond b 0 rest ≤ 32768))
-lost_cases true rest least most = inl refl
-lost_cases false rest least most = inr (least, most)
+lost_cases : (b : Bool) (place : ℕ) → 24 ≤ room place → (cond b 0 (room place) ≡ 0) ⊎ ((24 ≤ cond b 0 (room place)) × (place % 32768 + cond b 0 (room place) ≡ 32768))
+lost_cases true place least = inl refl
+lost_cases false place least = inr (least, omega arith)
 
 index_cases : (b : Bool) (rest next : ℕ) → 24 ≤ rest → cond (eqb (cond b 0 rest) 0) next (next + 1) ≡ cond b next (next + 1)
 index_cases true rest next least = refl
@@ -32,11 +33,29 @@ index_cases false rest next least =
     rw some refl
 
 -- the pad that a record needs
-pub lost_is : (log : Log) (bytes : List ℕ) (places : List Place) (next live n : ℕ) → IsKept log bytes places next live → (lost_before (length bytes) (record_size n) ≡ 0) ⊎ ((24 ≤ lost_before (length bytes) (record_size n)) × (lost_before (length bytes) (record_size n) ≤ 32768))
+pub lost_is : (log : Log) (bytes : List ℕ) (places : List Place) (next live n : ℕ) → IsKept log bytes places next live → (lost_before (length bytes) (record_size n) ≡ 0) ⊎ ((24 ≤ lost_before (length bytes) (record_size n)) × (length bytes % 32768 + lost_before (length bytes) (record_size n) ≡ 32768))
 lost_is log bytes places next live n k =
     let ends = end_is 32768 1 log.entries log.next begins_first k.is.follows in
     let least : 24 ≤ room (length bytes) = subst (λ (p : ℕ). 24 ≤ room p) (sym (length_kept log bytes places next live k)) ends.1.some in
-    lost_cases (fits_in (room (length bytes)) (record_size n)) (room (length bytes)) least (omega arith)
+    lost_cases (fits_in (room (length bytes)) (record_size n)) (length bytes) least
+
+-- the record stands in one chunk
+pub room_is : (place : ℕ) (payload : List ℕ) → length payload ≤ 24576 → (place + lost_before place (record_size (length payload))) % 32768 + record_size (length payload) ≤ 32768
+room_is place payload small =
+    let size = record_size (length payload) in
+    subst (λ (p : ℕ). p % 32768 + size ≤ 32768) (sym (lost_start place size)) (start_inside place (record { index = 0; live = true; payload = payload }) small)
+
+less_cases : (b : Bool) (rest : ℕ) → (b ≡ false → rest < 32768) → cond b 0 rest < 32768
+less_cases true rest h = omega arith
+less_cases false rest h = h refl
+
+-- a chunk's start needs no pad
+pub lost_less : (place n : ℕ) → n ≤ 24576 → lost_before place (record_size n) < 32768
+lost_less place n small =
+    less_cases (fits_in (room place) (record_size n)) (room place) (λ off. omega (arith, fits_false (room place) (record_size n) off, size_small n small))
+
+pub most_kept : (log : Log) (bytes : List ℕ) (places : List Place) (next live : ℕ) → IsKept log bytes places next live → length bytes ≤ 32768 * 256000
+most_kept log bytes places next live k = omega (arith, ap length k.text, long_most log k.is)
 
 pub index_kept : (log : Log) (bytes : List ℕ) (places : List Place) (next live : ℕ) (payload : List ℕ) → IsKept log bytes places next live → cond (eqb (lost_before (length bytes) (record_size (length payload))) 0) next (next + 1) ≡ given_index log payload
 index_kept log bytes places next live payload k =

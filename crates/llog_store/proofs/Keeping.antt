@@ -14,7 +14,7 @@ use Rattle.llog_store.specs.Kept.{IsKept, lost_before, behind_pad, with_numbers,
 use Rattle.llog_store.specs.Changes.{given_index, appended, cancelled, without}
 use Rattle.llog_store.proofs.Words.{length-word}
 use Rattle.llog_store.proofs.Marks.{length-bitmap, bitmap_with, bitmap_without, bytes_same, bytes_none}
-use Rattle.llog_store.proofs.Chunks.{Begins, begins_first, begins_entry, either_fits, text_fits, text_behind, length-entry}
+use Rattle.llog_store.proofs.Fitting.{Begins, begins_first, begins_entry, either_fits, text_fits, text_behind, length-entry}
 use Rattle.llog_store.proofs.Whole.{length-front, length-header, below_none, others_live, log_again}
 
 -- the log of its spelling
@@ -236,23 +236,23 @@ and_off : (b : Bool) → (false && false) ≡ (b && false)
 and_off true = refl
 and_off false = refl
 
-and_false : (b : Bool) → (b && false) ≡ false
+pub and_false : (b : Bool) → (b && false) ≡ false
 and_false true = refl
 and_false false = refl
 
-and_with : (b : Bool) → (b && true) ≡ b
+pub and_with : (b : Bool) → (b && true) ≡ b
 and_with true = refl
 and_with false = refl
 
-or_off : (b : Bool) → (b || false) ≡ b
+pub or_off : (b : Bool) → (b || false) ≡ b
 or_off true = refl
 or_off false = refl
 
-and_or_off : (b c : Bool) → ((b && false) || c) ≡ c
+pub and_or_off : (b c : Bool) → ((b && false) || c) ≡ c
 and_or_off true c = refl
 and_or_off false c = refl
 
-neither : (a b : Bool) → (a || b) ≡ false → (a ≡ false) × (b ≡ false)
+pub neither : (a b : Bool) → (a || b) ≡ false → (a ≡ false) × (b ≡ false)
 neither true b h = absurd cc
 neither false b h = (refl, h)
 

@@ -4,7 +4,7 @@ pub mod Words
 pub mod Fields
 pub mod Pieces
 pub mod Marks
-pub mod Chunks
+pub mod Fitting
 pub mod Records
 pub mod Whole
 pub mod Keeping
@@ -14,3 +14,6 @@ pub mod Passing
 pub mod Listing
 pub mod Lines
 pub mod Prefix
+pub mod Filling
+pub mod Room
+pub mod Lending

@@ -1,12 +1,13 @@
 -- The lines of update records, one place after another.
-use Rattle.std.proofs.Common.{◌≡◌, ℕ, ◌+◌, ◌<◌, ◌≤◌, List, [], ◌++◌, length, get_or, take, drop, map, refl, sym, ap, ◌∙◌, append_assoc, arith}
+use Rattle.std.proofs.Common.{◌≡◌, ℕ, ◌+◌, ◌<◌, ◌≤◌, List, ◌++◌, length, get_or, take, drop, map, sym, ap, ◌∙◌, append_assoc, arith}
 use Rattle.std.specs.List.{flat_map}
-use Rattle.std.proofs.lemmas.List.{length-take, length-drop, take_all, map_more, take-append-drop, map-append, flat_map_more, append-nil}
-use Rattle.std.proofs.lemmas.List.Concat.{flat_map-append}
+use Rattle.std.proofs.lemmas.List.{take-map, length-take, length-drop, take_all, map_more, flat_map_more}
 use Rattle.llog_store.specs.declared.place.Place.{Place}
 use Rattle.llog_store.specs.Log.{Entry, Log, live_count}
 use Rattle.llog_store.specs.Kept.{IsKept, marked, payload_in, seen, IsWithin}
-use Rattle.llog_store.specs.DecodedText.{head_line, record_line, entry_line, decoded_text, IsFront}
+use Rattle.llog_store.specs.DecodedText.{head_line, record_line, entry_line, decoded_text}
+use Rattle.fid_space.specs.Fronts.{IsFront}
+use Rattle.fid_space.proofs.Fronts.{front_items}
 use Rattle.llog_store.proofs.Seeing.{seen_kept}
 
 line_is : (bytes : List ℕ) (p : Place) → IsWithin (length bytes) p → entry_line (seen bytes p) ≡ record_line p.index (marked bytes p.index) p.length
@@ -30,9 +31,7 @@ lines_all bytes places k out now le so_far = so_far ∙ ap (λ (ps : List Place)
 
 pub lines_front : (bytes : List ℕ) (places : List Place) (k : ℕ) (out now after : List ℕ) → now ≡ out ++ flat_map entry_line (map (seen bytes) (take k places)) → after ≡ now → IsFront out after (flat_map entry_line (map (seen bytes) places))
 lines_front bytes places k out now after so_far same =
-    let joined : flat_map entry_line (map (seen bytes) (take k places)) ++ flat_map entry_line (map (seen bytes) (drop k places)) ≡ flat_map entry_line (map (seen bytes) places) =
-    sym (flat_map-append entry_line (map (seen bytes) (take k places)) (map (seen bytes) (drop k places))) ∙ ap (λ (es : List Entry). flat_map entry_line es) (sym (map-append (seen bytes) (take k places) (drop k places)) ∙ ap (λ (ps : List Place). map (seen bytes) ps) (take-append-drop k places)) in
-    (flat_map entry_line (map (seen bytes) (take k places)), flat_map entry_line (map (seen bytes) (drop k places)), same ∙ so_far, joined)
+    front_items entry_line (map (seen bytes) places) k out now after (so_far ∙ ap (λ (es : List Entry). out ++ flat_map entry_line es) (sym (take-map (seen bytes) k places))) same
 
 -- ---- the whole text
 
@@ -40,13 +39,6 @@ pub text_is : (log : Log) (bytes bytes2 : List ℕ) (places places2 : List Place
 unfolding decoded_text
 text_is log bytes bytes2 places places2 next live k b p =
     rw (b, p, k.next_is, k.live_is) (ap (λ (es : List Entry). head_line log.next (live_count log.entries) ++ flat_map entry_line es) (seen_kept log bytes places next live k))
-
-pub front_none : (old new text : List ℕ) → new ≡ old → IsFront old new text
-front_none old new text same = ([], text, same ∙ sym (append-nil old), refl)
-
-pub front_more : (old mid new head lines text : List ℕ) → mid ≡ old ++ head → head ++ lines ≡ text → IsFront mid new lines → IsFront old new text
-front_more old mid new head lines text so_far whole f =
-    (head ++ f.0, f.1, f.2 ∙ ap (λ (x : List ℕ). x ++ f.0) so_far ∙ append_assoc old head f.0, append_assoc head f.0 f.1 ∙ ap (λ (x : List ℕ). head ++ x) f.3 ∙ whole)
 
 pub text_whole : (old mid new head lines text : List ℕ) → mid ≡ old ++ head → head ++ lines ≡ text → new ≡ mid ++ lines → new ≡ old ++ text
 text_whole old mid new head lines text so_far whole added = added ∙ ap (λ (x : List ℕ). x ++ lines) so_far ∙ append_assoc old head lines ∙ ap (λ (x : List ℕ). old ++ x) whole

@@ -20,7 +20,7 @@ use Rattle.llog_store.proofs.Fields.{bind_ok, ok_is}
 use Rattle.llog_store.proofs.Marks.{length-bitmap, bytes_same, bytes_none, bitmap_with}
 use Rattle.std.proofs.lemmas.List.{length-append}
 use Rattle.llog_store.specs.Log.{entry_end}
-use Rattle.llog_store.proofs.Chunks.{begins_first, follows_above}
+use Rattle.llog_store.proofs.Fitting.{begins_first, follows_above}
 use Rattle.llog_store.proofs.Records.{records_again}
 use Rattle.llog_store.proofs.Whole.{log_takes, header_again, length-header, count_below}
 

@@ -12,7 +12,7 @@ use Rattle.llog_store.specs.Log.{Entry, Log, room, fits_in, record_size, Follows
 use Rattle.llog_store.specs.Places.{places_of}
 use Rattle.llog_store.specs.Kept.{IsKept, marked, first_marked, payload_in, seen, IsWithin, append_fault, Refuses, Packs}
 use Rattle.llog_store.specs.Changes.{given_index, appended, all_appended, live_payloads, packed, repacked, first_live}
-use Rattle.llog_store.proofs.Chunks.{either_fits, index_fits, index_behind}
+use Rattle.llog_store.proofs.Fitting.{either_fits, index_fits, index_behind}
 use Rattle.llog_store.proofs.Seeing.{seen_kept, records_below}
 
 -- ---- the indexes rise

@@ -1,11 +1,13 @@
 -- The parts of a record: what was written is read again, and what is read was written so.
-use Rattle.std.proofs.Common.{◌≡◌, ℕ, ◌-◌, ◌^◌, ◌<◌, ◌≤◌, Bool, true, false, cond, eqb, leb, not, ◌&&◌, List, ◌++◌, length, Result, Ok, Err, refl, sym, ap, subst, arith}
-use Rattle.std.proofs.lemmas.Bool.{eqb-true, eq-eqb, leb-true, le-leb}
+use Rattle.std.proofs.Common.{◌≡◌, ℕ, ◌-◌, ◌^◌, ◌<◌, ◌≤◌, Bool, true, false, cond, eqb, leb, ltb, not, ◌&&◌, ◌||◌, List, ◌++◌, length, Result, Ok, Err, refl, sym, ap, subst, arith, inl, inr}
+use Rattle.std.proofs.lemmas.Bool.{eqb-true, eq-eqb, leb-true, le-leb, le-ltb}
+use Rattle.std.proofs.lemmas.Bool.Decides.{eqb_tells}
 use Rattle.llog_store.specs.declared.fault.LlogFault.{LlogFault}
 use Rattle.llog_store.specs.declared.fault.LlogFault.TheVariants as fault
 use Rattle.llog_store.specs.Numbers.{word, zeros, pad8, IsBytes}
 use Rattle.llog_store.specs.Log.{room, fits_in, record_size}
-use Rattle.llog_store.specs.Reading.{◌>>=◌, at, field_at, number_at, known_at, zeros_at, size_stands, size_at, kind_at, tail_at, payload_size_at, Piece, Update, Pad, update_at, pad_at}
+use Rattle.llog_store.specs.Reading.{◌>>=◌, at, field_at, number_at, known_at, zeros_at, size_stands, is_pad_size, pad_stands, size_at, kind_at, tail_at, payload_size_at, Piece, Update, Pad, update_at, pad_at}
+use Rattle.llog_store.proofs.Words.{pad8_near, pad8_even}
 use Rattle.llog_store.proofs.Fields.{bind_ok, guard_ok, ok_is, Takes, Takes-then, field_takes, field_again, number_takes, number_again, known_takes, known_again, zeros_take, zeros_again}
 
 pub both : (a b : Bool) → (a && b) ≡ true → (a ≡ true) × (b ≡ true)
@@ -34,25 +36,44 @@ tail_again len size index rest s i = rw (known_again len size _ (word index ++ r
 
 -- ---- the length of a record, its type, and the length of a payload
 
+-- what update records have as a length
+pub pad_size_none : (n : ℕ) → n ≤ 24576 → is_pad_size (record_size n) ≡ false
+pad_size_none n small =
+    let other : eqb (record_size n) 24 ≡ false = elim (eqb_tells (record_size n) 24) [ inl h ↦ absurd (let same = h.1 in omega arith) | inr h ↦ h.0 ] in
+    let low : ltb 24608 (record_size n) ≡ false = le-ltb 24608 (record_size n) (omega (arith, small, pad8_near n, pad8_even n)) in
+    rw (other, low) refl
+
+or_true : (b : Bool) → (b || true) ≡ true
+or_true true = refl
+or_true false = refl
+
+-- the length of an update record stands, and so does that of a pad where one may stand
+pub update_size_stands : (n : ℕ) (may : Bool) → n ≤ 24576 → (not (is_pad_size (record_size n)) || may) ≡ true
+update_size_stands n may small = rw (pad_size_none n small) refl
+
+pub pad_size_stands : (size : ℕ) (may : Bool) → may ≡ true → (not (is_pad_size size) || may) ≡ true
+pad_size_stands size may h = rw h (or_true (not (is_pad_size size)))
+
 pub record TakesSize (len lost : ℕ) (bytes : List ℕ) (n : ℕ) (rest : List ℕ) : Type 0 where
   pub taken : Takes bytes (word n) rest
   pub small : n < 2 ^ 32
   pub stands : size_stands (room (at len bytes)) n ≡ true
   pub behind : fits_in lost n ≡ false
 
-pub size_takes : (len lost : ℕ) (bytes : List ℕ) (n : ℕ) (rest : List ℕ) → IsBytes bytes → size_at len lost bytes ≡ Ok (n, rest) → TakesSize len lost bytes n rest
+pub size_takes : (len lost more : ℕ) (bytes : List ℕ) (n : ℕ) (rest : List ℕ) → IsBytes bytes → size_at len lost more bytes ≡ Ok (n, rest) → TakesSize len lost bytes n rest
 unfolding size_at
-size_takes len lost bytes n rest fits e =
-    let a = bind_ok (number_at len bytes) (λ m. cond (size_stands (room (at len bytes)) m.0 && not (fits_in lost m.0)) (Ok m) (Err (fault.BadLength (at len bytes)))) (n, rest) e in
-    let g = guard_ok (size_stands (room (at len bytes)) a.0.0 && not (fits_in lost a.0.0)) (fault.BadLength (at len bytes)) a.0 (n, rest) a.2 in
+size_takes len lost more bytes n rest fits e =
+    let a = bind_ok (number_at len bytes) (λ m. cond (size_stands (room (at len bytes)) m.0 && not (fits_in lost m.0) && (not (is_pad_size m.0) || pad_stands (room (at len bytes)) m.0 lost more)) (Ok m) (Err (fault.BadLength (at len bytes)))) (n, rest) e in
+    let g = guard_ok (size_stands (room (at len bytes)) a.0.0 && not (fits_in lost a.0.0) && (not (is_pad_size a.0.0) || pad_stands (room (at len bytes)) a.0.0 lost more)) (fault.BadLength (at len bytes)) a.0 (n, rest) a.2 in
     let t = number_takes len bytes a.0.0 a.0.1 fits a.1 in
-    let b = both (size_stands (room (at len bytes)) a.0.0) (not (fits_in lost a.0.0)) g.0 in
+    let b0 = both (size_stands (room (at len bytes)) a.0.0 && not (fits_in lost a.0.0)) (not (is_pad_size a.0.0) || pad_stands (room (at len bytes)) a.0.0 lost more) g.0 in
+    let b = both (size_stands (room (at len bytes)) a.0.0) (not (fits_in lost a.0.0)) b0.0 in
     let made : TakesSize len lost bytes a.0.0 a.0.1 = record { taken = t.0; small = t.1; stands = b.0; behind = not_true (fits_in lost a.0.0) b.1 } in
     subst (λ (p : ℕ × List ℕ). TakesSize len lost bytes p.0 p.1) g.1 made
 
-pub size_again : (len lost n : ℕ) (rest : List ℕ) → n < 2 ^ 32 → size_stands (room (at len (word n ++ rest))) n ≡ true → fits_in lost n ≡ false → size_at len lost (word n ++ rest) ≡ Ok (n, rest)
+pub size_again : (len lost more n : ℕ) (rest : List ℕ) → n < 2 ^ 32 → size_stands (room (at len (word n ++ rest))) n ≡ true → fits_in lost n ≡ false → (not (is_pad_size n) || pad_stands (room (at len (word n ++ rest))) n lost more) ≡ true → size_at len lost more (word n ++ rest) ≡ Ok (n, rest)
 unfolding size_at
-size_again len lost n rest small stands behind = rw (number_again len n rest small, stands, behind) refl
+size_again len lost more n rest small stands behind may = rw (number_again len n rest small, stands, behind, may) refl
 
 kind_cases : (place : ℕ) (is_update is_other pad_may : Bool) (n : ℕ) (bytes after : List ℕ) (is_pad : Bool) (rest : List ℕ) → (is_update ≡ true → n ≡ 0x106a0000) → (is_other ≡ true → n ≡ 0x10600000) → Takes bytes (word n) after
     → cond {A = Result (Bool × List ℕ) LlogFault} is_update (Ok (false, after)) (cond {A = Result (Bool × List ℕ) LlogFault} (is_other && pad_may) (Ok (true, after)) (Err (fault.BadType place))) ≡ Ok (is_pad, rest) → Takes bytes (word (cond is_pad 0x10600000 0x106a0000)) rest × (is_pad ≡ true → pad_may ≡ true)
@@ -67,20 +88,20 @@ kind_cases place false true true n bytes after is_pad rest u o t e =
 kind_cases place false true false n bytes after is_pad rest u o t e = absurd cc
 kind_cases place false false pad_may n bytes after is_pad rest u o t e = absurd cc
 
-pub kind_takes : (len : ℕ) (pad_may : Bool) (bytes : List ℕ) (is_pad : Bool) (rest : List ℕ) → IsBytes bytes → kind_at len pad_may bytes ≡ Ok (is_pad, rest) → Takes bytes (word (cond is_pad 0x10600000 0x106a0000)) rest × (is_pad ≡ true → pad_may ≡ true)
+pub kind_takes : (len : ℕ) (update_may pad_may : Bool) (bytes : List ℕ) (is_pad : Bool) (rest : List ℕ) → IsBytes bytes → kind_at len update_may pad_may bytes ≡ Ok (is_pad, rest) → Takes bytes (word (cond is_pad 0x10600000 0x106a0000)) rest × (is_pad ≡ true → pad_may ≡ true)
 unfolding kind_at
-kind_takes len pad_may bytes is_pad rest fits e =
-    let a = bind_ok (number_at len bytes) (λ n. cond {A = Result (Bool × List ℕ) LlogFault} (eqb n.0 0x106a0000) (Ok (false, n.1)) (cond {A = Result (Bool × List ℕ) LlogFault} (eqb n.0 0x10600000 && pad_may) (Ok (true, n.1)) (Err (fault.BadType (at len bytes))))) (is_pad, rest) e in
+kind_takes len update_may pad_may bytes is_pad rest fits e =
+    let a = bind_ok (number_at len bytes) (λ n. cond {A = Result (Bool × List ℕ) LlogFault} (eqb n.0 0x106a0000 && update_may) (Ok (false, n.1)) (cond {A = Result (Bool × List ℕ) LlogFault} (eqb n.0 0x10600000 && pad_may) (Ok (true, n.1)) (Err (fault.BadType (at len bytes))))) (is_pad, rest) e in
     let t = number_takes len bytes a.0.0 a.0.1 fits a.1 in
-    kind_cases (at len bytes) (eqb a.0.0 0x106a0000) (eqb a.0.0 0x10600000) pad_may a.0.0 bytes a.0.1 is_pad rest (eqb-true a.0.0 0x106a0000) (eqb-true a.0.0 0x10600000) t.0 a.2
+    kind_cases (at len bytes) (eqb a.0.0 0x106a0000 && update_may) (eqb a.0.0 0x10600000) pad_may a.0.0 bytes a.0.1 is_pad rest (λ h. eqb-true a.0.0 0x106a0000 (both (eqb a.0.0 0x106a0000) update_may h).0) (eqb-true a.0.0 0x10600000) t.0 a.2
 
-pub update_kind_again : (len : ℕ) (pad_may : Bool) (rest : List ℕ) → kind_at len pad_may (word 0x106a0000 ++ rest) ≡ Ok (false, rest)
+pub update_kind_again : (len : ℕ) (update_may pad_may : Bool) (rest : List ℕ) → update_may ≡ true → kind_at len update_may pad_may (word 0x106a0000 ++ rest) ≡ Ok (false, rest)
 unfolding kind_at
-update_kind_again len pad_may rest = rw (number_again len 0x106a0000 rest (omega arith)) refl
+update_kind_again len update_may pad_may rest may = rw (number_again len 0x106a0000 rest (omega arith), may) refl
 
-pub pad_kind_again : (len : ℕ) (rest : List ℕ) → kind_at len true (word 0x10600000 ++ rest) ≡ Ok (true, rest)
+pub pad_kind_again : (len : ℕ) (update_may : Bool) (rest : List ℕ) → kind_at len update_may true (word 0x10600000 ++ rest) ≡ Ok (true, rest)
 unfolding kind_at
-pad_kind_again len rest = rw (number_again len 0x10600000 rest (omega arith)) refl
+pad_kind_again len update_may rest = rw (number_again len 0x10600000 rest (omega arith)) refl
 
 pub payload_size_takes : (len size : ℕ) (bytes : List ℕ) (n : ℕ) (rest : List ℕ) → IsBytes bytes → payload_size_at len size bytes ≡ Ok (n, rest) → Takes bytes (word n) rest × (n ≤ 24576) × (size ≡ record_size n)
 unfolding payload_size_at

@@ -8,7 +8,7 @@ use Rattle.llog_store.specs.Log.{Entry, Log, room, fits_in, record_size, start_o
 use Rattle.llog_store.specs.Reading.{◌>>=◌, Header, header_at, Piece, Update, Pad, piece_at, at}
 use Rattle.llog_store.proofs.Fields.{ok_is}
 use Rattle.llog_store.proofs.Marks.{length-bitmap}
-use Rattle.llog_store.proofs.Chunks.{Begins, begins_first, begins_entry, either_fits, text_fits, text_behind, start_fits, start_behind, index_fits, index_behind, length-record, length-pad, length-entry, follows_above, fits_none, fits_chunk, chunk_start}
+use Rattle.llog_store.proofs.Fitting.{Begins, begins_first, begins_entry, either_fits, text_fits, text_behind, start_fits, start_behind, index_fits, index_behind, length-record, length-pad, length-entry, follows_above, fits_none, fits_chunk, chunk_start}
 use Rattle.llog_store.proofs.Records.{update_piece_again, pad_piece_again}
 use Rattle.llog_store.proofs.Whole.{header_again, count_below}
 

@@ -1,5 +1,5 @@
 -- The records of a log: what was written is read again, and what is read was written so.
-use Rattle.std.proofs.Common.{◌≡◌, ◌≢◌, ℕ, zero, suc, ◌+◌, ◌-◌, ◌%◌, ◌^◌, ◌<◌, ◌≤◌, Bool, true, false, cond, eqb, ltb, leb, ◌&&◌, List, [], ◌∷◌, ◌++◌, length, map, Result, Ok, Err, refl, sym, ap, subst, ◌∙◌, append_assoc, arith, inl, inr, add-zero}
+use Rattle.std.proofs.Common.{◌≡◌, ◌≢◌, ℕ, zero, suc, ◌+◌, ◌-◌, ◌%◌, ◌^◌, ◌<◌, ◌≤◌, Bool, true, false, cond, eqb, ltb, leb, not, ◌&&◌, List, [], ◌∷◌, ◌++◌, length, map, Result, Ok, Err, refl, sym, ap, subst, ◌∙◌, append_assoc, arith, inl, inr, add-zero}
 use Rattle.std.proofs.lemmas.Bool.Decides.{eqb_tells}
 use Rattle.std.proofs.lemmas.Bool.{eqb-true, eq-eqb, leb-true, le-leb, ltb-true, lt-ltb}
 use Rattle.std.proofs.lemmas.List.{length-append, nil_from_length}
@@ -7,13 +7,13 @@ use Rattle.llog_store.specs.declared.fault.LlogFault.{LlogFault}
 use Rattle.llog_store.specs.declared.fault.LlogFault.TheVariants as fault
 use Rattle.llog_store.specs.Numbers.{word, zeros, pad8, IsBytes}
 use Rattle.llog_store.specs.Log.{Entry, room, fits_in, record_size, start_of, index_of, record_text, pad_text, entry_text, entry_end, records_text, Follows}
-use Rattle.llog_store.specs.Reading.{◌>>=◌, at, size_stands, size_at, known_at, kind_at, Piece, Update, Pad, update_at, pad_at, pad_stands, piece_at, Found, found_in, lost_in, number_at, end_at, records_at, entry_of}
+use Rattle.llog_store.specs.Reading.{◌>>=◌, at, size_stands, is_pad_size, size_at, known_at, kind_at, Piece, Update, Pad, update_at, pad_at, pad_stands, piece_at, Found, found_in, lost_in, number_at, end_at, records_at, entry_of}
 use Rattle.llog_store.specs.Views.{place_of}
 use Rattle.llog_store.specs.Places.{places_of, founds_of}
 use Rattle.llog_store.proofs.Words.{pad8_near}
 use Rattle.llog_store.proofs.Fields.{bind_ok, ok_is, Takes, Takes-then, Takes-length, known_takes, known_again}
-use Rattle.llog_store.proofs.Pieces.{both, both_true, size_takes, size_again, kind_takes, update_kind_again, pad_kind_again, update_takes, update_again, pad_takes, pad_again}
-use Rattle.llog_store.proofs.Chunks.{fits_none, fits_chunk, fits_same, Begins, begins_entry, chunk_start, size_even, length-record, length-pad, length-entry, text_fits, text_behind, start_fits, start_behind, index_fits, index_behind, either_fits, follows_above}
+use Rattle.llog_store.proofs.Pieces.{both, both_true, pad_size_none, update_size_stands, pad_size_stands, size_takes, size_again, kind_takes, update_kind_again, pad_kind_again, update_takes, update_again, pad_takes, pad_again}
+use Rattle.llog_store.proofs.Fitting.{fits_none, fits_chunk, fits_same, Begins, begins_entry, chunk_start, size_even, length-record, length-pad, length-entry, text_fits, text_behind, start_fits, start_behind, index_fits, index_behind, either_fits, follows_above}
 
 -- ---- one record
 
@@ -67,12 +67,12 @@ piece_cases len index lost more bytes rest size a b false after p ts stands behi
 pub piece_takes : (len index lost more : ℕ) (bytes : List ℕ) (p : Piece) (rest : List ℕ) → IsBytes bytes → piece_at len index lost more bytes ≡ Ok (p, rest) → Took len index lost more bytes rest p
 unfolding piece_at
 piece_takes len index lost more bytes p rest fits e =
-    let s = bind_ok (size_at len lost bytes) (λ size. known_at len index (fault.BadIndex (at len size.1)) size.1 >>= λ a. kind_at len (pad_stands (room (at len bytes)) size.0 lost more) a >>= λ pad. cond pad.0 (pad_at len size.0 index pad.1) (update_at len size.0 index pad.1)) (p, rest) e in
-    let i = bind_ok (known_at len index (fault.BadIndex (at len s.0.1)) s.0.1) (λ a. kind_at len (pad_stands (room (at len bytes)) s.0.0 lost more) a >>= λ pad. cond pad.0 (pad_at len s.0.0 index pad.1) (update_at len s.0.0 index pad.1)) (p, rest) s.2 in
-    let k = bind_ok (kind_at len (pad_stands (room (at len bytes)) s.0.0 lost more) i.0) (λ pad. cond pad.0 (pad_at len s.0.0 index pad.1) (update_at len s.0.0 index pad.1)) (p, rest) i.2 in
-    let ts = size_takes len lost bytes s.0.0 s.0.1 fits s.1 in
+    let s = bind_ok (size_at len lost more bytes) (λ size. known_at len index (fault.BadIndex (at len size.1)) size.1 >>= λ a. kind_at len (not (is_pad_size size.0)) (pad_stands (room (at len bytes)) size.0 lost more) a >>= λ pad. cond pad.0 (pad_at len size.0 index pad.1) (update_at len size.0 index pad.1)) (p, rest) e in
+    let i = bind_ok (known_at len index (fault.BadIndex (at len s.0.1)) s.0.1) (λ a. kind_at len (not (is_pad_size s.0.0)) (pad_stands (room (at len bytes)) s.0.0 lost more) a >>= λ pad. cond pad.0 (pad_at len s.0.0 index pad.1) (update_at len s.0.0 index pad.1)) (p, rest) s.2 in
+    let k = bind_ok (kind_at len (not (is_pad_size s.0.0)) (pad_stands (room (at len bytes)) s.0.0 lost more) i.0) (λ pad. cond pad.0 (pad_at len s.0.0 index pad.1) (update_at len s.0.0 index pad.1)) (p, rest) i.2 in
+    let ts = size_takes len lost more bytes s.0.0 s.0.1 fits s.1 in
     let ti = known_takes len index (fault.BadIndex (at len s.0.1)) s.0.1 i.0 ts.taken.fits i.1 in
-    let tk = kind_takes len (pad_stands (room (at len bytes)) s.0.0 lost more) i.0 k.0.0 k.0.1 ti.fits k.1 in
+    let tk = kind_takes len (not (is_pad_size s.0.0)) (pad_stands (room (at len bytes)) s.0.0 lost more) i.0 k.0.0 k.0.1 ti.fits k.1 in
     piece_cases len index lost more bytes rest s.0.0 s.0.1 i.0 k.0.0 k.0.1 p ts.taken ts.stands ts.behind ti tk.0 tk.1 k.2
 
 -- an update record that fits where it stands, and not in the pad before it
@@ -88,7 +88,7 @@ update_piece_again len index lost more payload rest small i fit behind =
     let r0 = word index ++ r1 in
     let regrouped : record_text index payload ++ rest ≡ word size ++ r0 = simp append_assoc in
     let stands : size_stands (room (at len (word size ++ r0))) size ≡ true = both_true _ _ (both_true _ _ (eq-eqb _ _ (size_even n)) (le-leb 24 size (omega arith))) (subst (λ (x : List ℕ). fits_in (room (at len x)) size ≡ true) regrouped fit) in
-    ap (λ (x : List ℕ). piece_at len index lost more x) regrouped ∙ rw (size_again len lost size r0 below stands behind, known_again len index (fault.BadIndex (at len r0)) r1 i, update_kind_again len (pad_stands (room (at len (word size ++ r0))) size lost more) r2) (update_again len index payload rest small below i)
+    ap (λ (x : List ℕ). piece_at len index lost more x) regrouped ∙ rw (size_again len lost more size r0 below stands behind (update_size_stands n (pad_stands (room (at len (word size ++ r0))) size lost more) small), known_again len index (fault.BadIndex (at len r0)) r1 i, update_kind_again len (not (is_pad_size size)) (pad_stands (room (at len (word size ++ r0))) size lost more) r2 (ap not (pad_size_none n small))) (update_again len index payload rest small below i)
 
 pub pad_piece_again : (len index more size : ℕ) (rest : List ℕ) → index < 2 ^ 32 → size % 8 ≡ 0 → 24 ≤ size → size ≤ 32768 → room (at len (pad_text size index ++ rest)) ≡ size → 0 < more
     → piece_at len index 0 more (pad_text size index ++ rest) ≡ Ok (Pad size, rest)
@@ -103,7 +103,7 @@ pad_piece_again len index more size rest i even some most is left =
     let fit : fits_in (room (at len (word size ++ r0))) size ≡ true = subst (λ (r : ℕ). fits_in r size ≡ true) (sym here) (fits_same size) in
     let stands : size_stands (room (at len (word size ++ r0))) size ≡ true = both_true _ _ (both_true _ _ (eq-eqb _ _ even) (le-leb 24 size some)) fit in
     let may : pad_stands (room (at len (word size ++ r0))) size 0 more ≡ true = both_true _ _ (both_true _ _ (eq-eqb _ _ here) refl) (lt-ltb 0 more left) in
-    ap (λ (x : List ℕ). piece_at len index 0 more x) regrouped ∙ rw (size_again len 0 size r0 below stands (fits_none size (omega arith)), known_again len index (fault.BadIndex (at len r0)) r1 i, may, pad_kind_again len r2) (pad_again len size index rest below i)
+    ap (λ (x : List ℕ). piece_at len index 0 more x) regrouped ∙ rw (size_again len 0 more size r0 below stands (fits_none size (omega arith)) (pad_size_stands size (pad_stands (room (at len (word size ++ r0))) size 0 more) may), known_again len index (fault.BadIndex (at len r0)) r1 i, may, pad_kind_again len (not (is_pad_size size)) r2) (pad_again len size index rest below i)
 
 -- ---- all records
 
@@ -119,10 +119,10 @@ pub record TookAll (bits : List ℕ) (place index lost count : ℕ) (bytes : Lis
   pub behind : Behind lost (map (entry_of bits) fs)
   pub places : map place_of fs ≡ places_of place (map (entry_of bits) fs)
 
-end_cases : (len : ℕ) (b : Bool) (bytes : List ℕ) (fs : List Found) → cond {A = Result (List Found) LlogFault} b (Ok []) (size_at len 0 bytes >>= λ size. number_at len size.1 >>= λ n. Err (fault.BadIndex (at len size.1))) ≡ Ok fs → (b ≡ true) × (fs ≡ [])
+end_cases : (len : ℕ) (b : Bool) (bytes : List ℕ) (fs : List Found) → cond {A = Result (List Found) LlogFault} b (Ok []) (size_at len 0 0 bytes >>= λ size. number_at len size.1 >>= λ n. Err (fault.BadIndex (at len size.1))) ≡ Ok fs → (b ≡ true) × (fs ≡ [])
 end_cases len true bytes fs e = (refl, sym (ok_is [] fs e))
 end_cases len false bytes fs e =
-    let s = bind_ok (size_at len 0 bytes) (λ size. number_at len size.1 >>= λ n. Err (fault.BadIndex (at len size.1))) fs e in
+    let s = bind_ok (size_at len 0 0 bytes) (λ size. number_at len size.1 >>= λ n. Err (fault.BadIndex (at len size.1))) fs e in
     let n = bind_ok (number_at len s.0.1) (λ n. Err (fault.BadIndex (at len s.0.1))) fs s.2 in
     absurd (let bad = n.2 in cc)
 

@@ -1,5 +1,5 @@
 -- The update records, seen in the bytes at their places.
-use Rattle.std.proofs.Common.{◌≡◌, ℕ, ◌+◌, ◌-◌, ◌/◌, ◌<◌, ◌≤◌, Bool, true, false, ltb, ◌&&◌, ◌||◌, List, [], ◌∷◌, ◌++◌, length, get_or, take, drop, map, All, refl, sym, ap, subst, ◌∙◌, append_assoc, arith, inl, inr}
+use Rattle.std.proofs.Common.{◌≡◌, ℕ, ◌+◌, ◌-◌, ◌/◌, ◌%◌, ◌<◌, ◌≤◌, Bool, true, false, ltb, ◌&&◌, ◌||◌, List, [], ◌∷◌, ◌++◌, length, get_or, take, drop, map, All, refl, sym, ap, subst, ◌∙◌, append_assoc, arith, inl, inr}
 use Rattle.std.specs.List.{AllByRecursion}
 use Rattle.std.proofs.lemmas.Bool.{cases_lt, lt-ltb, le-ltb}
 use Rattle.std.proofs.lemmas.Bool.Decides.{eqb_tells}
@@ -8,12 +8,12 @@ use Rattle.std.proofs.lemmas.List.Elements.{All-from_recursion}
 use Rattle.llog_store.specs.declared.place.Place.{Place}
 use Rattle.llog_store.specs.Numbers.{word, zeros, pad8}
 use Rattle.llog_store.specs.Bitmap.{bitmap, bit_of}
-use Rattle.llog_store.specs.Log.{Entry, Log, room, record_size, start_of, record_text, pad_text, header_text, entry_text, entry_end, records_text, Follows, is_live, live_count, log_text}
+use Rattle.llog_store.specs.Log.{Entry, Log, room, fits_in, record_size, start_of, record_text, pad_text, header_text, entry_text, entry_end, records_text, Follows, is_live, live_count, log_text}
 use Rattle.llog_store.specs.Places.{places_of}
 use Rattle.llog_store.specs.Kept.{IsKept, marked, seen, IsWithin}
 use Rattle.llog_store.proofs.Words.{length-word, length-zeros, pad8_above}
 use Rattle.llog_store.proofs.Marks.{length-bitmap, bit_is}
-use Rattle.llog_store.proofs.Chunks.{Begins, begins_first, begins_entry, either_fits, text_fits, text_behind, start_fits, start_behind, index_fits, index_behind, length-entry, length-pad, follows_above}
+use Rattle.llog_store.proofs.Fitting.{fits_true, size_small, Begins, begins_first, begins_entry, either_fits, text_fits, text_behind, start_fits, start_behind, index_fits, index_behind, length-entry, length-pad, follows_above}
 use Rattle.llog_store.proofs.Whole.{length-header, first_live_is, others_live}
 use Rattle.llog_store.proofs.Keeping.{bit_read, records_end, end_is}
 
@@ -41,8 +41,23 @@ entry_payload front rest place e b long =
           rw (regrouped, start_behind place size off) (record_payload (front ++ pad) rest e.index e.payload (place + room place) there)
     ]
 
-place_bound : (place : ℕ) (e : Entry) → start_of place (record_size (length e.payload)) + 24 + length e.payload ≤ entry_end place e
+place_bound : (place : ℕ) (e : Entry) → start_of place (record_size (length e.payload)) + 24 + length e.payload < entry_end place e
 place_bound place e = omega (arith, pad8_above (length e.payload))
+
+fits_less : (rest size : ℕ) → fits_in rest size ≡ true → size ≤ rest
+fits_less rest size h = elim (fits_true rest size h) [ inl same ↦ omega (arith, same) | inr less ↦ omega (arith, less) ]
+
+-- a record stands in one chunk
+pub start_inside : (place : ℕ) (e : Entry) → length e.payload ≤ 24576 → start_of place (record_size (length e.payload)) % 32768 + record_size (length e.payload) ≤ 32768
+start_inside place e small =
+    let size = record_size (length e.payload) in
+    elim (either_fits place e) [
+      | inl fit ↦ rw (start_fits place size fit) (omega (arith, fits_less (room place) size fit))
+      | inr off ↦ rw (start_behind place size off) (omega (arith, size_small (length e.payload) small))
+    ]
+
+payload_inside : (place : ℕ) (e : Entry) → length e.payload ≤ 24576 → start_of place (record_size (length e.payload)) % 32768 + 24 + length e.payload ≤ 32768
+payload_inside place e small = omega (arith, start_inside place e small, pad8_above (length e.payload))
 
 end_above : (place : ℕ) (es : List Entry) → place ≤ records_end place es
 end_above place [] = omega arith
@@ -74,7 +89,7 @@ within_from : (place index : ℕ) (es : List Entry) (next len : ℕ) → Follows
 unfolding Follows places_of
 within_from place index [] next len f le = tt
 within_from place index (e ∷ es) next len f le =
-    ((omega (arith, place_bound place e, end_above (entry_end place e) es), f.1), within_from (entry_end place e) (e.index + 1) es next len f.2 le)
+    ((omega (arith, place_bound place e, end_above (entry_end place e) es), f.1, payload_inside place e f.1), within_from (entry_end place e) (e.index + 1) es next len f.2 le)
 
 -- ---- what is kept
 

@@ -14,7 +14,7 @@ use Rattle.llog_store.proofs.Words.{length-word, length-zeros}
 use Rattle.llog_store.proofs.Fields.{bind_ok, guard_ok, ok_is, Takes, Takes-then, Takes-length, field_takes, field_again, number_takes, number_again, known_takes, known_again, zeros_take, zeros_again}
 use Rattle.llog_store.proofs.Pieces.{both}
 use Rattle.llog_store.proofs.Marks.{length-bitmap, bit_is, one_more_set, none_set, bytes_same, same_bytes, no_other_of_same}
-use Rattle.llog_store.proofs.Chunks.{begins_first, either_fits, index_fits, index_behind, follows_above}
+use Rattle.llog_store.proofs.Fitting.{begins_first, either_fits, index_fits, index_behind, follows_above}
 use Rattle.llog_store.proofs.Records.{records_take, records_again}
 
 -- ---- the header

@@ -38,3 +38,8 @@ repacked log = if nat_le (packed log).next 256000 then packed log else log
 unfoldable pub first_live : ℕ → List Entry → Option (ℕ × List ℕ)
 first_live from [] = None
 first_live from (e ∷ es) = if e.live && nat_le from e.index then Some (e.index, e.payload) else first_live from es
+
+-- the payload of the live record with an index
+unfoldable pub live_payload : ℕ → List Entry → Option (List ℕ)
+live_payload index [] = None
+live_payload index (e ∷ es) = if e.live && (e.index == index) then Some e.payload else live_payload index es

@@ -1,5 +1,5 @@
 -- The text that shows a log, and the text of a fault. Each line ends with a line feed.
-use Rattle.std.specs.Prelude.{ℕ, ◌≡◌, Bool, List, ◌++◌, length, codes, if◌then◌else◌}
+use Rattle.std.specs.Prelude.{ℕ, Bool, List, ◌++◌, length, codes, if◌then◌else◌}
 use Rattle.std.specs.List.{flat_map}
 use Rattle.std.specs.Fmt.{decimal}
 use Rattle.llog_store.specs.declared.fault.LlogFault.{LlogFault}
@@ -33,7 +33,3 @@ fault_text (fault.BadPadding place) = place_line place (codes "BadPadding")
 fault_text (fault.BadBitmap place) = place_line place (codes "BadBitmap")
 fault_text (fault.Truncated place) = place_line place (codes "Truncated")
 fault_text fault.Memory = codes ""
-
--- the new list is the old one and a front of the text
-abbrev pub IsFront : List ℕ → List ℕ → List ℕ → Type 0
-IsFront old new text = (front : List ℕ) × (rest : List ℕ) × (new ≡ old ++ front) × (front ++ rest ≡ text)

@@ -1,7 +1,7 @@
 -- What a log keeps beside its bytes, and how its calls answer.
 use Rattle.std.specs.Prelude.{take, drop, set, get_or, bit_or, bit_and, ◌*◌, ◌/◌, ◌%◌, ◌^◌, ◌≡◌, ℕ, ◌≤◌, ◌<◌, ◌+◌, ◌-◌, ◌==◌, nat_le, nat_lt, false, ◌||◌, Bool, ◌&&◌, List, [], ◌∷◌, ◌++◌, length, if◌then◌else◌, Option, Some, None, Result, Ok, Err}
 use Rattle.std.specs.Int.{bit_at, bit_not, w8}
-use Rattle.llog_store.specs.Numbers.{word}
+use Rattle.llog_store.specs.Numbers.{word, zeros}
 use Rattle.llog_store.specs.declared.append.AppendFault.{AppendFault}
 use Rattle.llog_store.specs.declared.append.AppendFault.TheVariants as fault
 use Rattle.llog_store.specs.declared.fault.LlogFault.{LlogFault}
@@ -33,8 +33,19 @@ payload_in bytes p = take p.length (drop (p.at + 24) bytes)
 abbrev pub seen : List ℕ → Place → Entry
 seen bytes p = record { index = p.index; live = marked bytes p.index; payload = payload_in bytes p }
 
+-- a payload stands in bytes of that length, in one chunk
 abbrev pub IsWithin : ℕ → Place → Type 0
-IsWithin len p = (p.at + 24 + p.length ≤ len) × (p.length ≤ 24576)
+IsWithin len p = (p.at + 24 + p.length < len) × (p.length ≤ 24576) × (p.at % 32768 + 24 + p.length ≤ 32768)
+
+-- chunks one behind the other
+unfoldable pub joined : List (List ℕ) → List ℕ
+joined [] = []
+joined (c ∷ cs) = c ++ joined cs
+
+-- so many bytes are in chunks: each is full but the last, and those behind it are empty
+unfoldable pub Fills : ℕ → List (List ℕ) → Type 0
+Fills len [] = len ≡ 0
+Fills len (c ∷ cs) = (length c ≡ len - (len - 32768)) × Fills (len - 32768) cs
 
 -- how many bytes a pad fills before a record of that size, 0 where it needs none
 abbrev pub lost_before : ℕ → ℕ → ℕ
@@ -52,6 +63,10 @@ with_bit bytes index = set bytes (24 + index / 8) (bit_or (get_or bytes (24 + in
 
 abbrev pub without_bit : List ℕ → ℕ → List ℕ
 without_bit bytes index = set bytes (24 + index / 8) (bit_and (get_or bytes (24 + index / 8) 0) (bit_not w8 (1 * 2 ^ (index % 8) % 256)))
+
+-- a header without a set bit
+abbrev pub wiped : List ℕ → List ℕ
+wiped bytes = take 24 bytes ++ (zeros 32000 ++ drop 32024 bytes)
 
 -- why a payload can't be appended: its length first
 unfoldable pub append_fault : Log → List ℕ → Option AppendFault

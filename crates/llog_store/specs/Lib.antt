@@ -1,5 +1,6 @@
 pub mod Numbers
 pub mod Bitmap
+pub mod Chunked
 pub mod Log
 pub mod Reading
 pub mod Changes

@@ -1,5 +1,5 @@
 -- Reading a log from left to right: its value, or the first field that can't stand, with its place.
-use Rattle.std.specs.Prelude.{◌≡◌, ℕ, zero, suc, ◌+◌, ◌-◌, ◌%◌, ◌==◌, ◌&&◌, nat_le, nat_lt, not, Bool, true, false, if◌then◌else◌, List, [], ◌∷◌, length, take, drop, map, Option, Some, None, Result, Ok, Err}
+use Rattle.std.specs.Prelude.{◌≡◌, ℕ, zero, suc, ◌+◌, ◌-◌, ◌%◌, ◌==◌, ◌&&◌, ◌||◌, nat_le, nat_lt, not, Bool, true, false, if◌then◌else◌, List, [], ◌∷◌, length, take, drop, map, Option, Some, None, Result, Ok, Err}
 use Rattle.llog_store.specs.declared.fault.LlogFault.{LlogFault}
 use Rattle.llog_store.specs.declared.fault.LlogFault.TheVariants as fault
 use Rattle.llog_store.specs.Numbers.{worth, pad8, first_set}
@@ -90,18 +90,26 @@ header_at len bytes = do
 abbrev pub size_stands : ℕ → ℕ → Bool
 size_stands rest size = (size % 8 == 0) && nat_le 24 size && fits_in rest size
 
--- The length of a record, behind a pad that filled so many bytes: it can't be one that had fitted there.
--- Behind no pad these are 0.
-unfoldable pub size_at : ℕ → ℕ → List ℕ → Result (ℕ × List ℕ) LlogFault
-size_at len lost rest = do
+-- A pad fills the rest of its chunk; it follows no pad, and isn't the last record.
+abbrev pub pad_stands : ℕ → ℕ → ℕ → ℕ → Bool
+pad_stands rest size lost more = (rest == size) && (lost == 0) && nat_lt 0 more
+
+-- a length that no update record has
+abbrev pub is_pad_size : ℕ → Bool
+is_pad_size size = (size == 24) || nat_lt 24608 size
+
+-- The length of a record, which so many more follow, behind a pad that filled so many bytes: it can't be one
+-- that had fitted there. Behind no pad these are 0. One that only a pad has stands where a pad does.
+unfoldable pub size_at : ℕ → ℕ → ℕ → List ℕ → Result (ℕ × List ℕ) LlogFault
+size_at len lost more rest = do
   n ← number_at len rest
-  if size_stands (room (at len rest)) n.0 && not (fits_in lost n.0) then Ok n else Err (fault.BadLength (at len rest))
+  if size_stands (room (at len rest)) n.0 && not (fits_in lost n.0) && (not (is_pad_size n.0) || pad_stands (room (at len rest)) n.0 lost more) then Ok n else Err (fault.BadLength (at len rest))
 
 -- A record is an update record or a pad; whether it is a pad.
-unfoldable pub kind_at : ℕ → Bool → List ℕ → Result (Bool × List ℕ) LlogFault
-kind_at len pad_stands rest = do
+unfoldable pub kind_at : ℕ → Bool → Bool → List ℕ → Result (Bool × List ℕ) LlogFault
+kind_at len update_stands pad_stands rest = do
   n ← number_at len rest
-  if n.0 == 0x106a0000 then Ok (false, n.1) else (if (n.0 == 0x10600000) && pad_stands then Ok (true, n.1) else Err (fault.BadType (at len rest)))
+  if (n.0 == 0x106a0000) && update_stands then Ok (false, n.1) else (if (n.0 == 0x10600000) && pad_stands then Ok (true, n.1) else Err (fault.BadType (at len rest)))
 
 -- length and index again
 unfoldable pub tail_at : ℕ → ℕ → ℕ → List ℕ → Result (List ℕ) LlogFault
@@ -137,16 +145,12 @@ pad_at len size index rest = do
   c ← tail_at len size index b
   Ok (Pad size, c)
 
--- A pad fills the rest of its chunk; it follows no pad, and isn't the last record.
-abbrev pub pad_stands : ℕ → ℕ → ℕ → ℕ → Bool
-pad_stands rest size lost more = (rest == size) && (lost == 0) && nat_lt 0 more
-
 -- the record with this index, which so many more follow
 unfoldable pub piece_at : ℕ → ℕ → ℕ → ℕ → List ℕ → Result (Piece × List ℕ) LlogFault
 piece_at len index lost more rest = do
-  size ← size_at len lost rest
+  size ← size_at len lost more rest
   a ← known_at len index (fault.BadIndex (at len size.1)) size.1
-  pad ← kind_at len (pad_stands (room (at len rest)) size.0 lost more) a
+  pad ← kind_at len (not (is_pad_size size.0)) (pad_stands (room (at len rest)) size.0 lost more) a
   if pad.0 then pad_at len size.0 index pad.1 else update_at len size.0 index pad.1
 
 -- an update record, and where it stands
@@ -167,7 +171,7 @@ lost_in (Pad size) = size
 unfoldable pub end_at : ℕ → List ℕ → Result (List Found) LlogFault
 end_at len rest =
     if length rest == 0 then Ok []
-    else (size_at len 0 rest >>= λ size. number_at len size.1 >>= λ n. Err (fault.BadIndex (at len size.1)))
+    else (size_at len 0 0 rest >>= λ size. number_at len size.1 >>= λ n. Err (fault.BadIndex (at len size.1)))
 
 -- so many records, the first with this index
 unfoldable pub records_at : ℕ → ℕ → ℕ → ℕ → List ℕ → Result (List Found) LlogFault

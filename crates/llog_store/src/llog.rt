@@ -1,31 +1,33 @@
-ghost use Rattle.std.specs.Prelude.{◌≡◌, ◌≤◌, ◌<◌, ◌-◌, ◌+◌, ◌*◌, ◌++◌, map, All, ◌∷◌, ◌==◌, ◌/◌, ◌%◌, get_or, ◌⊎◌, ◌↔◌, ℕ, Some, None, Ok, List, true, false, [], IsTrue, length, take, drop, OnOk, OnErr, IfOk, if◌then◌else◌};
+ghost use Rattle.std.specs.Prelude.{◌≡◌, ◌≤◌, ◌<◌, ◌-◌, ◌+◌, ◌*◌, ◌++◌, map, All, ◌∷◌, ◌==◌, ◌/◌, ◌%◌, ◌^◌, get_or, ◌⊎◌, ◌↔◌, ℕ, Some, None, Ok, List, true, false, [], IsTrue, length, take, drop, OnOk, OnErr, IfOk, if◌then◌else◌};
 ghost use Rattle.std.specs.declared.alloc.Global.{Global};
 ghost use Rattle.std.specs.Option.{option_map};
-ghost use Rattle.llog_store.specs.Numbers.{IsBytes, word, zeros};
+ghost use Rattle.llog_store.specs.Numbers.{IsBytes};
+ghost use Rattle.llog_store.specs.Chunked.{chunk_count, chunk_of, joined_to};
 ghost use Rattle.llog_store.specs.Reading.{Gives, log_at};
-ghost use Rattle.llog_store.specs.DecodedText.{IsFront, decoded_text};
+ghost use Rattle.fid_space.specs.Fronts.{IsFront};
+ghost use Rattle.llog_store.specs.DecodedText.{decoded_text};
 ghost use Rattle.llog_store.specs.Log.{Log, IsLog, spells, empty_log, is_live, live_count, log_text, record_size};
-ghost use Rattle.llog_store.specs.Kept.{marked, payload_in, seen, IsWithin, lost_before, behind_pad, with_numbers, with_bit, without_bit, append_fault, Refuses, Packs};
-ghost use Rattle.llog_store.specs.Changes.{given_index, appended, all_appended, cancelled, live_payloads, packed, repacked, first_live};
+ghost use Rattle.llog_store.specs.Kept.{seen, IsWithin, lost_before, behind_pad, append_fault, Refuses, Packs};
+ghost use Rattle.llog_store.specs.Changes.{given_index, appended, all_appended, cancelled, live_payloads, packed, repacked, first_live, live_payload};
 
 use crate::append::{AppendFault, NotLive};
-use crate::bits::{mark, unmark, wipe, write_number};
 use crate::checking::parts;
+use crate::chunks::Chunks;
 use crate::fault::LlogFault;
 use crate::place::Place;
 use crate::printing::{print_entries, print_head};
-use crate::reading::{BITMAP, CHUNK, END_OF_INDEXES, MAX_PAYLOAD, fits, record_size, room};
-use crate::walking::{BITS_AT, count_before, first_marked, has_live, payload_of};
-use crate::writing::{put_header, put_pad, put_record};
+use crate::reading::{END_OF_INDEXES, MAX_PAYLOAD, fits, record_size, room};
+use crate::walking::{count_before, first_marked, has_live, payload_of};
 use fid_space::Bytes;
 use std::alloc::{AllocError as Memory, Global};
 use std::marker::Model;
 
 /// An update log, as the DNE phase II design keeps it on each target. Contracts see its next index and its
-/// update records, each with its index, whether it is live, and its payload.
+/// update records, each with its index, whether it is live, and its payload. Its bytes are kept in chunks of
+/// 32,768, and no call but `pack` moves or copies bytes that stand in them.
 #[derive(Drop)]
 pub struct Llog {
-    bytes: Vec<u8>,
+    bytes: Chunks,
     places: Vec<Place>,
     next: u32,
     live: u32,
@@ -39,9 +41,9 @@ impl Model for Llog {
     ghost use Rattle.llog_store.specs.Reading.{log_of};
     ghost use Rattle.llog_store.specs.Kept.{IsKept};
 
-    ghost view = { λ l. log_of l.bytes.items };
+    ghost view = { λ l. log_of l.bytes };
 
-    ghost invariant = { λ l. IsKept (log_of l.bytes.items) l.bytes.items l.places.items l.next l.live };
+    ghost invariant = { λ l. IsKept (log_of l.bytes) l.bytes l.places.items l.next l.live };
 }
 
 impl Llog {
@@ -49,10 +51,8 @@ impl Llog {
     pub fn new(alloc: Global) -> Result<Llog, Memory>
         ensures { IfOk result (λ log. log ≡ empty_log) }
     {
-        let mut bytes = Vec::new(alloc);
-        put_header(&mut bytes)?;
         Ok(Llog {
-            bytes,
+            bytes: Chunks::new(alloc)?,
             places: Vec::new(alloc),
             next: 1,
             live: 0,
@@ -78,20 +78,30 @@ impl Llog {
         ensures err { OnErr result (IsFront out.old out.new (decoded_text self.now)) }
     {
         print_head(self.next, self.live, out)?;
-        print_entries(self.bytes.as_slice(), self.places.as_slice(), out)?;
+        print_entries(&self.bytes, self.places.as_slice(), out)?;
         Ok(())
     }
 
-    /// The log's one spelling.
-    pub fn bytes(&self) -> &[u8]
-        ensures { result.now ≡ log_text self.now }
+    /// How many chunks the log has. Joined in their order they are its one spelling.
+    pub fn chunks(&self) -> u32
+        ensures value { result ≡ chunk_count (log_text self.now) }
+        ensures joined { joined_to (log_text self.now) result ≡ log_text self.now }
     {
-        self.bytes.as_slice()
+        self.bytes.count() as u32
+    }
+
+    /// The bytes of a chunk: 32,768, and in the last one as many as are left. There is none from the count
+    /// of chunks on.
+    pub fn chunk(&self, i: u32) -> Option<&[u8]>
+        ensures { option_map (λ chunk. chunk.now) result ≡ chunk_of (log_text self.now) i }
+    {
+        self.bytes.chunk(i as usize)
     }
 
     /// The index that the next record takes.
     pub fn next(&self) -> u32
-        ensures { result ≡ self.now.next }
+        ensures value { result ≡ self.now.next }
+        ensures is_log { IsLog self.now }
     {
         self.next
     }
@@ -122,7 +132,7 @@ impl Llog {
         if MAX_PAYLOAD < n {
             return Err(AppendFault::TooLong(n));
         }
-        let lost = pad_before(self.bytes.as_slice().len(), record_size(n));
+        let lost = pad_before(self.bytes.len(), record_size(n));
         let index = index_behind(self.next, lost);
         if END_OF_INDEXES <= index {
             return Err(AppendFault::Full(self.next));
@@ -130,7 +140,7 @@ impl Llog {
         grow(&mut self.bytes, &mut self.places, lost, index, payload)?;
         self.next = index + 1;
         self.live += 1;
-        set_live(&mut self.bytes, self.next, self.live, index);
+        self.bytes.set_live(self.next, self.live, index);
         Ok(index)
     }
 
@@ -141,11 +151,11 @@ impl Llog {
         ensures not_live { OnErr result (is_live self.old.entries index ≡ false) }
         ensures err { OnErr result (self.new ≡ self.old) }
     {
-        if !has_live(self.bytes.as_slice(), index) {
+        if !has_live(&self.bytes, index) {
             return Err(NotLive);
         }
         self.live -= 1;
-        set_cancelled(&mut self.bytes, self.next, self.live, index);
+        self.bytes.set_cancelled(self.next, self.live, index);
         Ok(())
     }
 
@@ -153,8 +163,7 @@ impl Llog {
     pub fn clear(&mut self)
         ensures { self.new ≡ empty_log }
     {
-        self.bytes.truncate(CHUNK);
-        reset(&mut self.bytes);
+        self.bytes.set_empty();
         self.places.clear();
         self.next = 1;
         self.live = 0;
@@ -167,8 +176,7 @@ impl Llog {
         ensures ok { OnOk result (self.new ≡ repacked self.old) }
         ensures err { OnErr result (self.new ≡ self.old) }
     {
-        let alloc = *self.bytes.allocator();
-        let packed = pack_records(alloc, self.bytes.as_slice(), self.places.as_slice())?;
+        let packed = pack_records(self.bytes.alloc(), &self.bytes, self.places.as_slice())?;
         if let Some(log) = packed {
             *self = log;
         }
@@ -181,8 +189,19 @@ impl Llog {
     {
         let places = self.places.as_slice();
         let first = count_before(places, from);
-        let place = first_marked(self.bytes.as_slice(), &places[first..])?;
-        Some((place.index, payload_of(self.bytes.as_slice(), place)))
+        let place = first_marked(&self.bytes, &places[first..])?;
+        Some((place.index, payload_of(&self.bytes, place)))
+    }
+
+    /// The payload of the live record with an index. It is found as `walk` finds it, past no other record.
+    pub fn payload(&self, index: u32) -> Option<&[u8]>
+        ensures { option_map (λ payload. payload.now) result ≡ live_payload index self.now.entries }
+    {
+        if !has_live(&self.bytes, index) {
+            return None;
+        }
+        let (_, payload) = self.walk(index)?;
+        Some(payload)
     }
 }
 
@@ -191,7 +210,7 @@ fn whole(alloc: Global, bytes: &[u8]) -> Result<Llog, LlogFault>
     ensures { Gives (λ (l : Log). l) result (log_at bytes.now) }
 {
     let (next, live, places) = parts(alloc, bytes)?;
-    let bytes = Vec::from_slice(alloc, bytes)?;
+    let bytes = Chunks::copy_of(alloc, bytes)?;
     Ok(Llog {
         bytes,
         places,
@@ -211,7 +230,7 @@ pub fn one_spelling_per_log()
 {}
 
 /// The live records of these, appended to an empty log, or `None` where no index is left.
-fn pack_records(alloc: Global, bytes: &[u8], places: &[Place]) -> Result<Option<Llog>, Memory>
+fn pack_records(alloc: Global, bytes: &Chunks, places: &[Place]) -> Result<Option<Llog>, Memory>
     requires long { 32768 ≤ length bytes.now }
     requires within { All (IsWithin (length bytes.now)) places.now }
     ensures { IfOk result (λ o. Packs o (all_appended empty_log (live_payloads (map (seen bytes.now) places.now)))) }
@@ -236,6 +255,16 @@ pub fn half_cancelled_packs()
     ensures { (log : Log) → IsLog log → 2 * live_count log.entries ≤ length log.entries → (packed log).next ≤ 256000 }
 {}
 
+/// How long logs are: what an index costs at least, what that leaves, what a record adds at most, and that
+/// packing adds nothing. The call does nothing: its contract is a law.
+pub fn lengths_of_logs()
+    ensures next_small { (log : Log) → IsLog log → 24 * log.next ≤ 24 + length (log_text log) }
+    // So no append to such a log is Full.
+    ensures index_left { (log : Log) (payload : List ℕ) → IsLog log → length (log_text log) ≤ 5111808 → given_index log payload < 256000 }
+    ensures grows { (log : Log) (payload : List ℕ) → IsLog log → length payload ≤ 24576 → length (log_text (appended log payload)) ≤ length (log_text log) + 2 * record_size (length payload) + 24 }
+    ensures packs { (log : Log) → IsLog log → length (log_text (repacked log)) ≤ length (log_text log) }
+{}
+
 /// How many bytes a pad fills before a record of that size, 0 where it needs none.
 fn pad_before(place: usize, size: usize) -> usize
     ensures { result ≡ lost_before place size }
@@ -255,96 +284,32 @@ fn index_behind(next: u32, lost: usize) -> u32
     if lost == 0 { next } else { next + 1 }
 }
 
-/// Writes the header's numbers, and sets the bit of an index.
-fn set_live(bytes: &mut Vec<u8>, next: u32, live: u32, index: u32)
-    requires long { 32768 ≤ length bytes.old.items }
-    requires low { index < 256000 }
-    ensures { bytes.new.items ≡ with_bit (with_numbers bytes.old.items next live) index }
-{
-    let bytes = bytes.as_mut_slice();
-    write_numbers(bytes, next, live);
-    mark(bytes, BITS_AT, index);
-}
-
-/// Writes the header's numbers, and clears the bit of an index.
-fn set_cancelled(bytes: &mut Vec<u8>, next: u32, live: u32, index: u32)
-    requires long { 32768 ≤ length bytes.old.items }
-    requires low { index < 256000 }
-    ensures { bytes.new.items ≡ without_bit (with_numbers bytes.old.items next live) index }
-{
-    let bytes = bytes.as_mut_slice();
-    write_numbers(bytes, next, live);
-    unmark(bytes, BITS_AT, index);
-}
-
-/// Writes the header's numbers of an empty log, and clears the bitmap.
-fn reset(bytes: &mut Vec<u8>)
-    requires { 32768 ≤ length bytes.old.items }
-    ensures { bytes.new.items ≡ with_numbers (take 24 bytes.old.items ++ (zeros 32000 ++ drop 32024 bytes.old.items)) 1 0 }
-{
-    let bytes = bytes.as_mut_slice();
-    wipe(bytes, BITS_AT, BITMAP);
-    write_numbers(bytes, 1, 0);
-}
-
-/// Writes the header's next index and its count of live records.
-fn write_numbers(bytes: &mut [u8], next: u32, live: u32)
-    requires { 32768 ≤ length bytes.old }
-    ensures { bytes.new ≡ with_numbers bytes.old next live }
-{
-    write_number(bytes, 16, next);
-    write_number(bytes, 20, live);
-}
-
-/// Adds a record at the end, behind a pad of so many bytes where these aren't 0.
-#[tactic(auto, unfolding(crate::specs::Kept::behind_pad))]
-fn put_entry(bytes: &mut Vec<u8>, lost: usize, index: u32, payload: &[u8]) -> Result<(), Memory>
-    requires payload { length payload.now ≤ 24576 }
-    requires lost { (lost ≡ 0) ⊎ ((24 ≤ lost) × (lost ≤ 32768)) }
-    requires index { 1 ≤ index }
-    ensures ok { OnOk result (bytes.new.items ≡ bytes.old.items ++ behind_pad lost index payload.now) }
-    ensures kept { take (length bytes.old.items) bytes.new.items ≡ bytes.old.items }
-{
-    if lost != 0 {
-        put_pad(bytes, lost, index - 1)?;
-    }
-    put_record(bytes, index, payload)
-}
-
 /// Adds a record and where it stands, or nothing where memory runs out.
 fn grow(
-    bytes: &mut Vec<u8>,
+    bytes: &mut Chunks,
     places: &mut Vec<Place>,
     lost: usize,
     index: u32,
     payload: &[u8],
 ) -> Result<(), Memory>
     requires payload { length payload.now ≤ 24576 }
-    requires lost { (lost ≡ 0) ⊎ ((24 ≤ lost) × (lost ≤ 32768)) }
+    requires lost { (lost ≡ 0) ⊎ ((24 ≤ lost) × (length bytes.old % 32768 + lost ≡ 32768)) }
+    requires less { lost < 32768 }
+    requires room { (length bytes.old + lost) % 32768 + record_size (length payload.now) ≤ 32768 }
     requires index { 1 ≤ index }
-    ensures bytes { OnOk result (bytes.new.items ≡ bytes.old.items ++ behind_pad lost index payload.now) }
-    ensures places { OnOk result (places.new.items ≡ places.old.items ++ record { index = index; at = length bytes.old.items + lost; length = length payload.now } ∷ []) }
-    ensures bytes_kept { OnErr result (bytes.new.items ≡ bytes.old.items) }
+    requires long { length bytes.old ≤ 2 ^ 60 }
+    ensures bytes { OnOk result (bytes.new ≡ bytes.old ++ behind_pad lost index payload.now) }
+    ensures places { OnOk result (places.new.items ≡ places.old.items ++ record { index = index; at = length bytes.old + lost; length = length payload.now } ∷ []) }
+    ensures bytes_kept { OnErr result (bytes.new ≡ bytes.old) }
     ensures places_kept { OnErr result (places.new.items ≡ places.old.items) }
 {
-    let before = bytes.as_slice().len();
     let place = Place {
         index,
-        at: before + lost,
+        at: bytes.len() + lost,
         length: payload.len(),
     };
-    match put_entry(bytes, lost, index, payload) {
-        Ok(()) => {}
-        Err(_) => {
-            bytes.truncate(before);
-            return Err(Memory);
-        }
-    }
-    match places.push(place) {
-        Ok(()) => Ok(()),
-        Err(_) => {
-            bytes.truncate(before);
-            Err(Memory)
-        }
-    }
+    places.reserve(1)?;
+    bytes.add_entry(lost, index, payload)?;
+    places.push_reserved(place);
+    Ok(())
 }

@@ -3,8 +3,10 @@
 ghost use Rattle.std.specs.Prelude.{◌≡◌, ◌≤◌, ◌<◌, ◌++◌, codes, length, map, OnOk, OnErr, All};
 ghost use Rattle.std.specs.List.{flat_map};
 ghost use Rattle.llog_store.specs.Kept.{seen, IsWithin};
-ghost use Rattle.llog_store.specs.DecodedText.{head_line, record_line, entry_line, place_line, fault_text, IsFront};
+ghost use Rattle.fid_space.specs.Fronts.{IsFront};
+ghost use Rattle.llog_store.specs.DecodedText.{head_line, record_line, entry_line, place_line, fault_text};
 
+use crate::chunks::Chunks;
 use crate::fault::LlogFault;
 use crate::place::Place;
 use crate::walking::has_live;
@@ -36,7 +38,7 @@ fn print_entry(index: u32, live: bool, len: usize, out: &mut Bytes) -> Result<()
 }
 
 /// The lines of update records. Want of memory leaves the first lines.
-pub fn print_entries(bytes: &[u8], places: &[Place], out: &mut Bytes) -> Result<(), Memory>
+pub fn print_entries(bytes: &Chunks, places: &[Place], out: &mut Bytes) -> Result<(), Memory>
     requires long { 32768 ≤ length bytes.now }
     requires within { All (IsWithin (length bytes.now)) places.now }
     ensures ok { OnOk result (out.new ≡ out.old ++ flat_map entry_line (map (seen bytes.now) places.now)) }

@@ -1,9 +1,9 @@
 //! Reading a log from left to right, with the place of the first field that can't stand.
 
-ghost use Rattle.std.specs.Prelude.{◌≡◌, ◌<◌, ◌≤◌, ◌==◌, ◌&&◌, ◌-◌, ◌+◌, ◌*◌, nat_lt, nat_le, not, ℕ, true, ◌++◌, OnOk, [], length, map, IfOk, IfSome};
+ghost use Rattle.std.specs.Prelude.{◌≡◌, ◌<◌, ◌≤◌, ◌==◌, ◌&&◌, ◌-◌, ◌+◌, ◌*◌, ◌||◌, nat_lt, nat_le, not, ℕ, true, ◌++◌, OnOk, [], length, map, IfOk, IfSome};
 ghost use Rattle.llog_store.specs.Numbers.{first_set, pad8};
 ghost use Rattle.llog_store.specs.Log.{room, fits_in, record_size};
-ghost use Rattle.llog_store.specs.Reading.{Sees, Gives, at, field_at, number_at, known_at, zeros_at, next_at, front_at, back_at, header_at, size_stands, size_at, kind_at, tail_at, payload_size_at, update_at, pad_at, pad_stands, piece_at, end_at, lost_in};
+ghost use Rattle.llog_store.specs.Reading.{Sees, Gives, at, field_at, number_at, known_at, zeros_at, next_at, front_at, back_at, header_at, size_stands, is_pad_size, size_at, kind_at, tail_at, payload_size_at, update_at, pad_at, pad_stands, piece_at, end_at, lost_in};
 ghost use Rattle.llog_store.specs.Views.{header_view, piece_view, places_in, places_at};
 
 use crate::fault::LlogFault;
@@ -204,26 +204,48 @@ fn is_size(rest: usize, size: usize) -> bool
     size % 8 == 0 && 24 <= size && fits(rest, size)
 }
 
+/// Whether only a pad can have this length.
+fn is_pad_size(size: usize) -> bool
+    ensures { result ≡ is_pad_size size }
+{
+    size == 24 || 24_608 < size
+}
+
+/// Whether a pad of that size can stand in the rest of a chunk, behind a pad of so many bytes or none.
+fn pad_stands(rest: usize, size: usize, lost: usize, is_last: bool) -> bool
+    ensures { (more : ℕ) → is_last ≡ not (nat_lt 0 more) → result ≡ pad_stands rest size lost more }
+{
+    rest == size && lost == 0 && !is_last
+}
+
 /// The length of a record, behind a pad of so many bytes or none.
 #[tactic(auto, unfolding(crate::specs::Reading::size_at))]
-fn size(len: usize, lost: usize, rest: &[u8]) -> Result<(u32, &[u8]), LlogFault>
-    ensures { Sees (λ x. (x.0, x.1.now)) result (size_at len lost rest.now) }
+fn size(len: usize, lost: usize, is_last: bool, rest: &[u8]) -> Result<(u32, &[u8]), LlogFault>
+    ensures { (more : ℕ) → is_last ≡ not (nat_lt 0 more) → Sees (λ x. (x.0, x.1.now)) result (size_at len lost more rest.now) }
 {
+    let here = room(at(len, rest));
     let (size, after) = number(len, rest)?;
-    if is_size(room(at(len, rest)), size as usize) && !fits(lost, size as usize) {
+    let n = size as usize;
+    let pad_stands = pad_stands(here, n, lost, is_last);
+    if is_size(here, n) && !fits(lost, n) && (!is_pad_size(n) || pad_stands) {
         Ok((size, after))
     } else {
         Err(LlogFault::BadLength(at(len, rest)))
     }
 }
 
-/// Whether the record is a pad, which may stand here or not.
+/// Whether the record is a pad. An update record may stand here or not, and so may a pad.
 #[tactic(auto, unfolding(crate::specs::Reading::kind_at))]
-fn kind(len: usize, pad_stands: bool, rest: &[u8]) -> Result<(bool, &[u8]), LlogFault>
-    ensures { Sees (λ x. (x.0, x.1.now)) result (kind_at len pad_stands rest.now) }
+fn kind(
+    len: usize,
+    update_stands: bool,
+    pad_stands: bool,
+    rest: &[u8],
+) -> Result<(bool, &[u8]), LlogFault>
+    ensures { Sees (λ x. (x.0, x.1.now)) result (kind_at len update_stands pad_stands rest.now) }
 {
     let (kind, after) = number(len, rest)?;
-    if kind == UPDATE_TYPE {
+    if kind == UPDATE_TYPE && update_stands {
         Ok((false, after))
     } else if kind == PAD_TYPE && pad_stands {
         Ok((true, after))
@@ -302,10 +324,11 @@ fn read_piece(
     ensures { (more : ℕ) → is_last ≡ not (nat_lt 0 more) → Sees (λ x. (piece_view x.0, x.1.now)) result (piece_at len index lost more rest.now) }
 {
     let here = room(at(len, rest));
-    let (size, rest) = size(len, lost, rest)?;
+    let (size, rest) = size(len, lost, is_last, rest)?;
     let rest = known(len, index, LlogFault::BadIndex(at(len, rest)), rest)?;
-    let pad_stands = here == size as usize && lost == 0 && !is_last;
-    let (is_pad, rest) = kind(len, pad_stands, rest)?;
+    let update_stands = !is_pad_size(size as usize);
+    let pad_stands = pad_stands(here, size as usize, lost, is_last);
+    let (is_pad, rest) = kind(len, update_stands, pad_stands, rest)?;
     if is_pad {
         pad(len, size, index, rest)
     } else {
@@ -321,7 +344,7 @@ fn end(len: usize, rest: &[u8]) -> Result<(), LlogFault>
     if rest.is_empty() {
         return Ok(());
     }
-    let (_size, rest) = size(len, 0, rest)?;
+    let (_size, rest) = size(len, 0, true, rest)?;
     let (_index, _after) = number(len, rest)?;
     Err(LlogFault::BadIndex(at(len, rest)))
 }

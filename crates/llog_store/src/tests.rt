@@ -22,6 +22,15 @@ fn payload(alloc: Global, size: usize) -> Result<Vec<u8>, Fail> {
     Ok(bytes)
 }
 
+/// The chunks of a log, joined.
+fn bytes_of(alloc: Global, log: &Llog) -> Result<Vec<u8>, Fail> {
+    let mut bytes = Vec::new(alloc);
+    for i in 0..log.chunks() {
+        bytes.extend_from_slice(log.chunk(i).ok_or("the chunk is there")?)?;
+    }
+    Ok(bytes)
+}
+
 fn text_of(alloc: Global, log: &Llog) -> Result<Bytes, Fail> {
     let mut out = Bytes::new(alloc);
     log.print(&mut out)?;
@@ -31,18 +40,17 @@ fn text_of(alloc: Global, log: &Llog) -> Result<Bytes, Fail> {
 #[test]
 fn an_empty_log(rt: HostRuntime) -> Result<(), Fail> {
     let log = Llog::new(rt.alloc())?;
-    let bytes = log.bytes();
     assert_eq!(rt;
-        (log.next(), log.live(), log.records(), bytes.len()),
-        (1, 0, 0, HEADER)
+        (log.next(), log.live(), log.records(), log.chunks()),
+        (1, 0, 0, 1)
     );
+    let bytes = log.chunk(0).ok_or("the header is there")?;
+    assert_eq!(rt; bytes.len(), HEADER);
     let front: [u8; 24] = [
         0, 0x80, 0, 0, 0, 0, 0, 0, 0x39, 0x55, 0x64, 0x10, 0, 0, 0, 0, 1, 0, 0, 0, 0, 0, 0, 0,
     ];
-    let zeros = [0u8; 8];
     assert_eq!(rt; bytes.get(..24), Some(front.as_slice()));
-    assert_eq!(rt; bytes.get(24..32), Some(zeros.as_slice()));
-    assert_eq!(rt; bytes.get(32_752..32_760), Some(zeros.as_slice()));
+    assert_eq!(rt; bytes.get(24..32), Some([0u8; 8].as_slice()));
     assert_eq!(rt;
         bytes.get(32_760..),
         Some([0, 0x80, 0, 0, 0, 0, 0, 0].as_slice())
@@ -59,16 +67,17 @@ fn an_empty_log(rt: HostRuntime) -> Result<(), Fail> {
 fn one_record(rt: HostRuntime) -> Result<(), Fail> {
     let mut log = Llog::new(rt.alloc())?;
     assert_eq!(rt; log.append(b"abc"), Ok(1));
-    let bytes = log.bytes();
     let record: [u8; 40] = [
         40, 0, 0, 0, 1, 0, 0, 0, 0, 0, 0x6a, 0x10, 0, 0, 0, 0, 3, 0, 0, 0, 0, 0, 0, 0, b'a', b'b',
         b'c', 0, 0, 0, 0, 0, 40, 0, 0, 0, 1, 0, 0, 0,
     ];
-    assert_eq!(rt; bytes.get(HEADER..), Some(record.as_slice()));
+    assert_eq!(rt; log.chunk(1), Some(record.as_slice()));
+    let header = log.chunk(0).ok_or("the header is there")?;
     assert_eq!(rt;
-        bytes.get(16..25),
+        header.get(16..25),
         Some([2, 0, 0, 0, 1, 0, 0, 0, 2].as_slice())
     );
+    assert_eq!(rt; log.chunk(2), None);
     Ok(())
 }
 
@@ -86,15 +95,16 @@ fn records_that_just_fit_and_pads(rt: HostRuntime) -> Result<(), Fail> {
         let mut log = log_of(rt.alloc(), &[24_576])?;
         let second = payload(rt.alloc(), size)?;
         assert_eq!(rt; log.append(second.as_slice()), Ok(index), "{size}");
-        assert_eq!(rt; log.bytes().len(), HEADER + end, "{size}");
+        assert_eq!(rt; bytes_of(rt.alloc(), &log)?.len(), HEADER + end, "{size}");
     }
     let mut log = log_of(rt.alloc(), &[24_576, 8_104])?;
     assert_eq!(rt; log.append(b""), Ok(4));
     let pad: [u8; 24] = [
         24, 0, 0, 0, 3, 0, 0, 0, 0, 0, 0x60, 0x10, 0, 0, 0, 0, 24, 0, 0, 0, 3, 0, 0, 0,
     ];
-    assert_eq!(rt; log.bytes().get(65_512..65_536), Some(pad.as_slice()));
-    assert_eq!(rt; log.records(), 3);
+    let chunk = log.chunk(1).ok_or("the chunk is there")?;
+    assert_eq!(rt; chunk.get(32_744..), Some(pad.as_slice()));
+    assert_eq!(rt; (log.records(), log.chunks()), (3, 3));
     Ok(())
 }
 
@@ -128,116 +138,119 @@ fn cancelled_walked_packed_and_cleared(rt: HostRuntime) -> Result<(), Fail> {
     assert_eq!(rt; log.walk(0), Some((1, b"ZZZ".as_slice())));
     assert_eq!(rt; log.walk(2), Some((3, b"last".as_slice())));
     assert_eq!(rt; log.walk(4), None);
+    assert_eq!(rt; log.payload(3), Some(b"last".as_slice()));
+    assert_eq!(rt; log.payload(2), None);
     let text =
         b"log next 4 live 2\nindex 1 live length 3\nindex 2 cancelled length 5\nindex 3 live length 4\n";
     assert_eq!(rt; text_of(rt.alloc(), &log)?.bytes(), text.as_slice());
-    let again = Llog::read(rt.alloc(), log.bytes())
-        .ok()
-        .ok_or("the log is read")?;
-    assert_eq!(rt; again.bytes(), log.bytes());
-    assert_eq!(rt; again.walk(2), Some((3, b"last".as_slice())));
     log.pack()?;
     assert_eq!(rt; (log.next(), log.live(), log.records()), (3, 2, 2));
     assert_eq!(rt; log.walk(2), Some((2, b"last".as_slice())));
-    log.cancel(2).ok().ok_or("the record is live")?;
-    assert_eq!(rt; log.walk(2), None);
     log.clear();
-    assert_eq!(rt; log.bytes(), Llog::new(rt.alloc())?.bytes());
+    let empty = Llog::new(rt.alloc())?;
+    assert_eq!(rt; bytes_of(rt.alloc(), &log)?, bytes_of(rt.alloc(), &empty)?);
     assert_eq!(rt; log.append(b"new"), Ok(1));
     Ok(())
 }
 
-/// A place of the log below, what is written there, and what is then answered. Record 1 stands at 32,768, a
-/// pad of 8,160 bytes with index 2 at 57,376, record 3 at 65,536 and record 4 at 73,688.
-const FAULTS: [(usize, u8, LlogFault); 28] = [
+/// Record 1 stands at 32,768, a pad of 8,160 bytes with index 2 at 57,376, record 3 at 65,536 and record 4
+/// at 73,688, up to 73,728.
+fn padded(alloc: Global) -> Result<Vec<u8>, Fail> {
+    let log = log_of(alloc, &[24_576, 8_120, 3])?;
+    bytes_of(alloc, &log)
+}
+
+/// The log in chunks is read from one slice, and spelled again.
+#[test]
+fn a_log_is_read_again(rt: HostRuntime) -> Result<(), Fail> {
+    let bytes = padded(rt.alloc())?;
+    let log = Llog::read(rt.alloc(), bytes.as_slice())
+        .ok()
+        .ok_or("the log is read")?;
+    assert_eq!(rt;
+        (log.next(), log.live(), log.chunks(), bytes.len()),
+        (5, 3, 3, 73_728)
+    );
+    assert_eq!(rt; bytes_of(rt.alloc(), &log)?, bytes);
+    assert_eq!(rt; log.payload(4), Some(b"ZZZ".as_slice()));
+    Ok(())
+}
+
+/// What reading answers where two bytes are written over.
+fn refusal(alloc: Global, one: (usize, u8), other: (usize, u8)) -> Result<Option<LlogFault>, Fail> {
+    let mut bytes = padded(alloc)?;
+    for (place, byte) in [one, other] {
+        if let Some(old) = bytes.as_mut_slice().get_mut(place) {
+            *old = byte;
+        }
+    }
+    Ok(Llog::read(alloc, bytes.as_slice()).err())
+}
+
+const FAULTS: [(usize, u8, LlogFault); 15] = [
     (0, 1, LlogFault::BadLength(0)),
     (4, 1, LlogFault::BadIndex(4)),
     (8, 0, LlogFault::BadType(8)),
     (13, 1, LlogFault::BadPadding(13)),
-    (16, 0, LlogFault::BadIndex(16)),
     (18, 4, LlogFault::BadIndex(16)),
     (20, 4, LlogFault::BadBitmap(20)),
-    (24, 0b11110, LlogFault::BadBitmap(20)),
     (32_030, 1, LlogFault::BadPadding(32_030)),
-    (32_760, 1, LlogFault::BadTail(32_760)),
     (32_764, 1, LlogFault::BadTail(32_764)),
     (32_768, 0x21, LlogFault::BadLength(32_768)),
-    (32_769, 0, LlogFault::BadLength(32_784)),
-    (32_769, 0x81, LlogFault::BadLength(32_768)),
     (32_772, 2, LlogFault::BadIndex(32_772)),
-    (32_778, 0, LlogFault::BadType(32_776)),
-    (32_778, 0x60, LlogFault::BadType(32_776)),
-    (32_783, 1, LlogFault::BadPadding(32_783)),
     (32_784, 1, LlogFault::BadLength(32_784)),
-    (32_790, 1, LlogFault::BadPadding(32_790)),
     (57_368, 0, LlogFault::BadTail(57_368)),
-    (57_372, 0, LlogFault::BadTail(57_372)),
     (57_400, 1, LlogFault::BadPadding(57_400)),
-    (65_532, 0, LlogFault::BadTail(65_532)),
     (65_536, 0xe0, LlogFault::BadLength(65_536)),
-    (73_688, 16, LlogFault::BadLength(73_688)),
     (73_715, 1, LlogFault::BadPadding(73_715)),
-    (16, 3, LlogFault::BadType(57_384)),
 ];
-
-/// The log with two bytes written over.
-fn changed(
-    alloc: Global,
-    log: &Llog,
-    one: (usize, u8),
-    other: (usize, u8),
-) -> Result<Vec<u8>, Fail> {
-    let mut bytes = Vec::from_slice(alloc, log.bytes())?;
-    if let Some(byte) = bytes.as_mut_slice().get_mut(one.0) {
-        *byte = one.1;
-    }
-    if let Some(byte) = bytes.as_mut_slice().get_mut(other.0) {
-        *byte = other.1;
-    }
-    Ok(bytes)
-}
 
 #[test]
 fn faults_with_their_places(rt: HostRuntime) -> Result<(), Fail> {
-    let log = log_of(rt.alloc(), &[24_576, 8_120, 3])?;
-    assert_eq!(rt; (log.next(), log.live(), log.bytes().len()), (5, 3, 73_728));
     for (place, byte, want) in FAULTS {
-        let bytes = changed(rt.alloc(), &log, (place, byte), (place, byte))?;
-        assert_eq!(rt; Llog::read(rt.alloc(), bytes.as_slice()).err(), Some(want));
+        let got = refusal(rt.alloc(), (place, byte), (place, byte))?;
+        assert_eq!(rt; got, Some(want), "{place}");
     }
     Ok(())
 }
 
-/// The count of live records is one more, and so is a bit: of the pad, of no record at all, of index 0.
+/// Lengths that only a pad can have: one that doesn't fill its chunk, one that would be last, one behind a
+/// pad, and one where a pad may stand. Then a pad's type behind another length, and a pad that would be last.
+/// Then bits of the pad and of no record at all, where the count is one more.
+const PADS_AND_BITS: [((usize, u8), (usize, u8), LlogFault); 8] = [
+    ((32_768, 0x28), (32_769, 0x60), LlogFault::BadLength(32_768)),
+    ((73_688, 24), (73_689, 0), LlogFault::BadLength(73_688)),
+    ((65_536, 0x28), (65_537, 0x60), LlogFault::BadLength(65_536)),
+    ((32_768, 0), (32_769, 0x80), LlogFault::BadType(32_776)),
+    ((32_778, 0x60), (32_779, 0x10), LlogFault::BadType(32_776)),
+    ((16, 3), (17, 0), LlogFault::BadType(57_384)),
+    ((20, 4), (24, 0b11110), LlogFault::BadBitmap(24)),
+    ((20, 4), (32_023, 128), LlogFault::BadBitmap(32_023)),
+];
+
 #[test]
-fn bits_of_no_record(rt: HostRuntime) -> Result<(), Fail> {
-    let log = log_of(rt.alloc(), &[24_576, 8_120, 3])?;
-    assert_eq!(rt; log.bytes().get(24), Some(&0b11010));
-    for (place, byte) in [(24, 0b11110), (24, 0b11011), (32_023, 128)] {
-        let bytes = changed(rt.alloc(), &log, (20, 4), (place, byte))?;
-        let got = Llog::read(rt.alloc(), bytes.as_slice()).err();
-        assert_eq!(rt; got, Some(LlogFault::BadBitmap(place)));
+fn pads_and_bits_that_cannot_stand(rt: HostRuntime) -> Result<(), Fail> {
+    for (one, other, want) in PADS_AND_BITS {
+        assert_eq!(rt; refusal(rt.alloc(), one, other)?, Some(want));
     }
     Ok(())
 }
 
 #[test]
 fn inputs_that_end_early_or_late(rt: HostRuntime) -> Result<(), Fail> {
-    let log = log_of(rt.alloc(), &[24_576, 8_120, 3])?;
-    for len in [0, 10, 32_767, 32_768, 32_772, 73_688, 73_727] {
-        let mut bytes = Vec::from_slice(rt.alloc(), log.bytes())?;
+    for len in [0, 32_767, 32_768, 73_688, 73_727] {
+        let mut bytes = padded(rt.alloc())?;
         bytes.truncate(len);
         let got = Llog::read(rt.alloc(), bytes.as_slice()).err();
         assert_eq!(rt; got, Some(LlogFault::Truncated(len)), "{len}");
     }
-    let rows: [(&[u8], LlogFault); 4] = [
-        (&[0, 0, 0, 0], LlogFault::BadLength(73_728)),
+    let rows: [(&[u8], LlogFault); 3] = [
+        (&[24, 0, 0, 0], LlogFault::BadLength(73_728)),
         (&[32, 0, 0, 0, 5, 0, 0, 0], LlogFault::BadIndex(73_732)),
-        (&[32, 0, 0, 0, 5], LlogFault::Truncated(73_733)),
         (&[32], LlogFault::Truncated(73_729)),
     ];
     for (more, want) in rows {
-        let mut bytes = Vec::from_slice(rt.alloc(), log.bytes())?;
+        let mut bytes = padded(rt.alloc())?;
         bytes.extend_from_slice(more)?;
         assert_eq!(rt; Llog::read(rt.alloc(), bytes.as_slice()).err(), Some(want));
     }
@@ -246,13 +259,8 @@ fn inputs_that_end_early_or_late(rt: HostRuntime) -> Result<(), Fail> {
 
 #[test]
 fn the_line_of_a_fault(rt: HostRuntime) -> Result<(), Fail> {
-    let rows: [(LlogFault, &str); 8] = [
-        (LlogFault::BadLength(0), "place 0: BadLength\n"),
-        (LlogFault::BadIndex(16), "place 16: BadIndex\n"),
-        (LlogFault::BadType(8), "place 8: BadType\n"),
+    let rows: [(LlogFault, &str); 3] = [
         (LlogFault::BadTail(32_760), "place 32760: BadTail\n"),
-        (LlogFault::BadPadding(12), "place 12: BadPadding\n"),
-        (LlogFault::BadBitmap(20), "place 20: BadBitmap\n"),
         (LlogFault::Truncated(7), "place 7: Truncated\n"),
         (LlogFault::Memory, ""),
     ];

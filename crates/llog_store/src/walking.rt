@@ -5,6 +5,7 @@ ghost use Rattle.std.specs.List.Sorted.{IsNonDecreasingBy};
 ghost use Rattle.llog_store.specs.Kept.{marked, first_marked, payload_in, seen, IsWithin};
 
 use crate::bits::is_marked;
+use crate::chunks::Chunks;
 use crate::place::Place;
 use crate::reading::END_OF_INDEXES;
 use std::alloc::{AllocError as Memory, Global};
@@ -14,25 +15,24 @@ pub const BITS_AT: usize = 24;
 
 /// Whether the header's bit of an index is set.
 #[tactic(auto, unfolding(crate::specs::Kept::marked))]
-pub fn has_live(bytes: &[u8], index: u32) -> bool
+pub fn has_live(bytes: &Chunks, index: u32) -> bool
     requires { 32768 ≤ length bytes.now }
     ensures { result ≡ marked bytes.now index }
 {
-    index < END_OF_INDEXES && is_marked(bytes, BITS_AT, index)
+    index < END_OF_INDEXES && is_marked(bytes.header(), BITS_AT, index)
 }
 
 /// The payload of the update record at a place.
-pub fn payload_of(bytes: &[u8], place: Place) -> &[u8]
-    requires { place.at + 24 + place.length ≤ length bytes.now }
+pub fn payload_of(bytes: &Chunks, place: Place) -> &[u8]
+    requires { IsWithin (length bytes.now) place }
     ensures { result.now ≡ payload_in bytes.now place }
 {
-    let start = place.at + 24;
-    &bytes[start..start + place.length]
+    bytes.payload(place.at, place.length)
 }
 
 /// The first of these update records that is live.
 #[tactic(auto, unfolding(crate::specs::Kept::first_marked))]
-pub fn first_marked(bytes: &[u8], places: &[Place]) -> Option<Place>
+pub fn first_marked(bytes: &Chunks, places: &[Place]) -> Option<Place>
     requires { 32768 ≤ length bytes.now }
     ensures { result ≡ first_marked bytes.now places.now }
 {

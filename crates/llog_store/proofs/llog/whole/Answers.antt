@@ -14,11 +14,11 @@ returns-in_err-next c =
 pub invariant_of-result : goal.invariant_of-result
 invariant_of-result c =
     let k = parts_kept c.args.bytes.now c.in_ok-next.next c.in_ok-next.live c.in_ok-next.places.items (λ i. omega (arith, c.type_inv.bytes i)) c.in_ok-next.ensures in
-    let now = subst (λ (b : List ℕ). IsKept k.0 b c.in_ok-next.places.items c.in_ok-next.next c.in_ok-next.live) (sym c.in_ok-bytes.ensures.items) k.2 in
-    kept_now k.0 c.in_ok-bytes.bytes.items c.in_ok-next.places.items c.in_ok-next.next c.in_ok-next.live now
+    let now = subst (λ (b : List ℕ). IsKept k.0 b c.in_ok-next.places.items c.in_ok-next.next c.in_ok-next.live) (sym c.in_ok-bytes.ensures) k.2 in
+    kept_now k.0 c.in_ok-bytes.bytes c.in_ok-next.places.items c.in_ok-next.next c.in_ok-next.live now
 
 pub returns : goal.returns
 returns c =
     let k = parts_kept c.args.bytes.now c.in_ok-next.next c.in_ok-next.live c.in_ok-next.places.items (λ i. omega (arith, c.type_inv.bytes i)) c.in_ok-next.ensures in
-    let now = subst (λ (b : List ℕ). IsKept k.0 b c.in_ok-next.places.items c.in_ok-next.next c.in_ok-next.live) (sym c.in_ok-bytes.ensures.items) k.2 in
-    read_exact c.args.bytes.now k.0 (log_of c.in_ok-bytes.bytes.items) k.1 (kept_log k.0 c.in_ok-bytes.bytes.items c.in_ok-next.places.items c.in_ok-next.next c.in_ok-next.live now)
+    let now = subst (λ (b : List ℕ). IsKept k.0 b c.in_ok-next.places.items c.in_ok-next.next c.in_ok-next.live) (sym c.in_ok-bytes.ensures) k.2 in
+    read_exact c.args.bytes.now k.0 (log_of c.in_ok-bytes.bytes) k.1 (kept_log k.0 c.in_ok-bytes.bytes c.in_ok-next.places.items c.in_ok-next.next c.in_ok-next.live now)

@@ -79,6 +79,9 @@ begins_chunk place start = record { even = omega arith; some = omega arith }
 pub size_even : (n : ℕ) → record_size n % 8 ≡ 0
 size_even n = omega (arith, pad8_even n)
 
+pub size_small : (n : ℕ) → n ≤ 24576 → record_size n ≤ 24608
+size_small n small = omega (arith, small, pad8_near n, pad8_even n)
+
 -- ---- lengths
 
 pub length-record : (index : ℕ) (payload : List ℕ) → length (record_text index payload) ≡ record_size (length payload)

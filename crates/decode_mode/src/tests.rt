@@ -106,8 +106,17 @@ fn takes_so_many_bytes(rt: HostRuntime) -> Result<(), Fail> {
     Ok(())
 }
 
-/// Three records, of which the second is cancelled.
-fn three(alloc: Global) -> Result<Llog, Fail> {
+/// The chunks of a log, joined.
+fn bytes_of(alloc: Global, log: &Llog) -> Result<Vec<u8>, Fail> {
+    let mut bytes = Vec::new(alloc);
+    for i in 0..log.chunks() {
+        bytes.extend_from_slice(log.chunk(i).ok_or("the chunk is there")?)?;
+    }
+    Ok(bytes)
+}
+
+/// A log of three records, of which the second is cancelled.
+fn three(alloc: Global) -> Result<Vec<u8>, Fail> {
     let mut log = Llog::new(alloc)?;
     for payload in [b"abc".as_slice(), b"defgh", b"last"] {
         log.append(payload)
@@ -115,7 +124,7 @@ fn three(alloc: Global) -> Result<Llog, Fail> {
             .ok_or("the record was not appended")?;
     }
     log.cancel(2).ok().ok_or("the record was not cancelled")?;
-    Ok(log)
+    bytes_of(alloc, &log)
 }
 
 #[test]
@@ -123,10 +132,10 @@ fn shows_logs(rt: HostRuntime) -> Result<(), Fail> {
     let log = three(rt.alloc())?;
     let text =
         "log next 4 live 2\nindex 1 live length 3\nindex 2 cancelled length 5\nindex 3 live length 4\nrest 0\n";
-    assert!(rt; logs(rt.alloc(), log.bytes(), Status::Done, text)?);
-    let empty = Llog::new(rt.alloc())?;
+    assert!(rt; logs(rt.alloc(), log.as_slice(), Status::Done, text)?);
+    let empty = bytes_of(rt.alloc(), &Llog::new(rt.alloc())?)?;
     let none = "log next 1 live 0\nrest 0\n";
-    assert!(rt; logs(rt.alloc(), empty.bytes(), Status::Done, none)?);
+    assert!(rt; logs(rt.alloc(), empty.as_slice(), Status::Done, none)?);
     Ok(())
 }
 
@@ -145,13 +154,13 @@ fn refuses_a_changed_log(rt: HostRuntime) -> Result<(), Fail> {
         (32_812, 3, "place 32812: BadIndex\n"),
     ];
     for (at, byte, text) in rows {
-        let bytes = changed(rt.alloc(), log.bytes(), at, byte)?;
+        let bytes = changed(rt.alloc(), log.as_slice(), at, byte)?;
         assert!(rt;
             logs(rt.alloc(), bytes.as_slice(), Status::Refused, text)?,
             "{at}"
         );
     }
-    let cut = &log.bytes()[..log.bytes().len().saturating_sub(1)];
+    let cut = &log.as_slice()[..log.len().saturating_sub(1)];
     assert!(rt; logs(rt.alloc(), cut, Status::Refused, "place 32887: Truncated\n")?);
     assert!(rt; logs(rt.alloc(), b"", Status::Refused, "place 0: Truncated\n")?);
     Ok(())
@@ -159,8 +168,7 @@ fn refuses_a_changed_log(rt: HostRuntime) -> Result<(), Fail> {
 
 #[test]
 fn nothing_is_left_behind_a_log(rt: HostRuntime) -> Result<(), Fail> {
-    let log = three(rt.alloc())?;
-    let mut bytes = Vec::from_slice(rt.alloc(), log.bytes())?;
+    let mut bytes = three(rt.alloc())?;
     bytes.push(0)?;
     let cut = "place 32889: Truncated\n";
     assert!(rt; logs(rt.alloc(), bytes.as_slice(), Status::Refused, cut)?);

@@ -166,7 +166,11 @@ fn decodes_logs(rt: HostRuntime) -> Result<(), Fail> {
     if log.cancel(2).is_err() {
         return Err("a live record".into());
     }
-    let (status, output) = run(alloc, "decode log", log.bytes(), &[], &[])?;
+    let mut bytes = Vec::new(alloc);
+    for i in 0..log.chunks() {
+        bytes.extend_from_slice(log.chunk(i).ok_or("the chunk is there")?)?;
+    }
+    let (status, output) = run(alloc, "decode log", bytes.as_slice(), &[], &[])?;
     assert_eq!(rt; status, 0);
     let want =
         "log next 4 live 2\nindex 1 live length 1\nindex 2 cancelled length 2\nindex 3 live length 0\nrest 0\n";

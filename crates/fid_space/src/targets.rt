@@ -27,6 +27,20 @@ impl Targets {
         Targets { bits: 0 }
     }
 
+    /// The set that a number says, by its bits.
+    pub fn of_number(number: u16) -> Targets
+        ensures { result ≡ number }
+    {
+        Targets { bits: number }
+    }
+
+    /// The number that says the set.
+    pub fn number(self) -> u16
+        ensures { result ≡ self }
+    {
+        self.bits
+    }
+
     /// Whether the target is a member.
     pub fn has(self, target: u8) -> bool
         requires { target < 16 }

@@ -97,6 +97,7 @@ fn keeps_targets(rt: HostRuntime) {
     assert!(rt; two.covers(one) && !one.covers(two));
     assert_eq!(rt; two.minus(one), Targets::none().with(0));
     assert_eq!(rt; two.minus(one).union(one), two);
+    assert_eq!(rt; Targets::of_number(0x8001).number(), two.number());
     targets_are_their_members();
     members_by_parts();
 }

@@ -1,0 +1,11 @@
+pub mod Basics
+pub mod Shapes
+pub mod Points
+pub mod Counts
+pub mod Naming
+pub mod Nodes
+pub mod Steps
+pub mod Faults
+pub mod Keeping
+pub mod Sounds
+pub mod Story

@@ -1,0 +1,5 @@
+pub mod Shares
+pub mod Updates
+pub mod Wrote
+pub mod ShareLaws
+pub mod Telling

@@ -39,13 +39,13 @@ pub at_one : (targets : ℕ) (us : List Update) (l m : Laid) (f : Fid) (n k : Op
 at_one targets us l m f n k ly lz names more was is others are here q =
     by_bool (same (owner q) f)
     (λ s.
-      let e = told_same (owner q) f s in
-      ap (λ d. effects us q (object_from targets l q d)) e
-      ∙ (λ i. effects us q (object_in targets q f (was.node i) (was.layout i) (was.names_are i)))
-      ∙ here q e
-      ∙ (λ i. object_in targets q f (sym is.node i) (sym is.layout i) (sym is.names_are i))
-      ∙ ap (λ d. object_from targets m q d) (sym e))
+    let e = told_same (owner q) f s in
+    ap (λ d. effects us q (object_from targets l q d)) e
+    ∙ (λ i. effects us q (object_in targets q f (was.node i) (was.layout i) (was.names_are i)))
+    ∙ here q e
+    ∙ (λ i. object_in targets q f (sym is.node i) (sym is.layout i) (sym is.names_are i))
+    ∙ ap (λ d. object_from targets m q d) (sym e))
     (λ s.
-      let o = others (owner q) s in
-      untouched f us q are s (object_at targets l q)
-      ∙ (λ i. object_in targets q (owner q) (sym o.node i) (sym o.layout i) (sym o.names_are i)))
+    let o = others (owner q) s in
+    untouched f us q are s (object_at targets l q)
+    ∙ (λ i. object_in targets q (owner q) (sym o.node i) (sym o.layout i) (sym o.names_are i)))

@@ -15,7 +15,7 @@ use Rattle.object_store.specs.Bodies.{is_allowed, body_at}
 use Rattle.object_store.specs.Objects.{Object, ObjectMap, fresh}
 use Rattle.object_store.specs.Meaning.{param, changed, put_back, created, changed_there, after_kind, after, after_all}
 use Rattle.tree_shares.specs.Shares.{is_at}
-use Rattle.tree_shares.specs.Updates.{placed_one, placed, part_for}
+use Rattle.tree_shares.specs.Updates.{placed_one, placed, updates_at}
 use Rattle.tree_sound.proofs.Basics.{same, by_bool, not_both}
 
 abbrev pub created_at : Option Object → Option (Body × List ℕ) → Option Object
@@ -94,24 +94,24 @@ yes_choice : (c : Bool) (x y z : Option Object) → c ≡ true → cond c x y �
 yes_choice c x y z h = ap (λ b. cond b x y) h ∙ sym (ap (λ b. cond b x z) h)
 
 hit : (t : ℕ) (c : Bool) (u : Update) (ps : List (ℕ × Update)) (us : List Update) (q : Fid) (o : Option Object) (place : Option ℕ) → is_at t place ≡ c
-    → ((p : Option Object) → effects (part_for t ps) q p ≡ cond c (effects us q p) p) → effects (part_for t (placed_one place u ps)) q o ≡ cond c (effects us q (touched u q o)) o
+    → ((p : Option Object) → effects (updates_at t ps) q p ≡ cond c (effects us q p) p) → effects (updates_at t (placed_one place u ps)) q o ≡ cond c (effects us q (touched u q o)) o
 hit t c u ps us q o None is ih = ih o ∙ no_choice c _ _ o (sym is)
 hit t c u ps us q o (Some there) is ih = by_place (there == t) is
   where
-    by_place : (b : Bool) → b ≡ c → effects (if b then u ∷ part_for t ps else part_for t ps) q o ≡ cond c (effects us q (touched u q o)) o
+    by_place : (b : Bool) → b ≡ c → effects (if b then u ∷ updates_at t ps else updates_at t ps) q o ≡ cond c (effects us q (touched u q o)) o
     by_place true e = ih (touched u q o) ∙ yes_choice c _ _ _ (sym e)
     by_place false e = ih o ∙ no_choice c _ _ o (sym e)
 
 missed : (t : ℕ) (c : Bool) (u : Update) (ps : List (ℕ × Update)) (us : List Update) (q : Fid) (o : Option Object) (place : Option ℕ) → touched u q o ≡ o
-    → ((p : Option Object) → effects (part_for t ps) q p ≡ cond c (effects us q p) p) → effects (part_for t (placed_one place u ps)) q o ≡ cond c (effects us q (touched u q o)) o
+    → ((p : Option Object) → effects (updates_at t ps) q p ≡ cond c (effects us q p) p) → effects (updates_at t (placed_one place u ps)) q o ≡ cond c (effects us q (touched u q o)) o
 missed t c u ps us q o None is ih = ih o ∙ ap (λ p. cond c (effects us q p) o) (sym is)
 missed t c u ps us q o (Some there) is ih = by_place (there == t)
   where
-    by_place : (b : Bool) → effects (if b then u ∷ part_for t ps else part_for t ps) q o ≡ cond c (effects us q (touched u q o)) o
-    by_place true = ap (effects (part_for t ps) q) is ∙ ih o ∙ ap (λ p. cond c (effects us q p) o) (sym is)
+    by_place : (b : Bool) → effects (if b then u ∷ updates_at t ps else updates_at t ps) q o ≡ cond c (effects us q (touched u q o)) o
+    by_place true = ap (effects (updates_at t ps) q) is ∙ ih o ∙ ap (λ p. cond c (effects us q p) o) (sym is)
     by_place false = ih o ∙ ap (λ p. cond c (effects us q p) o) (sym is)
 
-pub part_effects : (targets t : ℕ) (us : List Update) (q : Fid) (o : Option Object) → effects (part_for t (placed targets us)) q o ≡ cond (is_at t (place_of targets q)) (effects us q o) o
+pub part_effects : (targets t : ℕ) (us : List Update) (q : Fid) (o : Option Object) → effects (updates_at t (placed targets us)) q o ≡ cond (is_at t (place_of targets q)) (effects us q o) o
 part_effects targets t [] q o = either_same (is_at t (place_of targets q)) o
 part_effects targets t (u ∷ us) q o =
     by_bool (same q u.fid)

@@ -153,12 +153,12 @@ module _ (targets most : ℕ) (few : targets ≤ 16) (l : Laid) (sound : IsSound
       ∙ ap (or_else (object_in targets q e.0 (Some e.1) (layout_at l e.0) (names_of l.tree e.0))) rest
       ∙ by_bool (same (owner q) e.0)
       (λ s.
-        let here : object_in targets q e.0 (Some e.1) (layout_at l e.0) (names_of l.tree e.0) ≡ object_at targets l q =
-        ap (λ o. object_in targets q e.0 o (layout_at l e.0) (names_of l.tree e.0)) (sym all.0) ∙ ap (λ d. object_from targets l q d) (sym (told_same (owner q) e.0 s)) in
-        ap (λ o. or_else o (cond others (object_at targets l q) None)) here ∙ twice (object_at targets l q) others ∙ sym (ap right s))
+      let here : object_in targets q e.0 (Some e.1) (layout_at l e.0) (names_of l.tree e.0) ≡ object_at targets l q =
+      ap (λ o. object_in targets q e.0 o (layout_at l e.0) (names_of l.tree e.0)) (sym all.0) ∙ ap (λ d. object_from targets l q d) (sym (told_same (owner q) e.0 s)) in
+      ap (λ o. or_else o (cond others (object_at targets l q) None)) here ∙ twice (object_at targets l q) others ∙ sym (ap right s))
       (λ s.
-        let c = clients_at e.0 e.1 all.0 in
-        ap (λ o. or_else o (cond others (object_at targets l q) None)) (not_here targets q e.0 e.1 (layout_at l e.0) (names_of l.tree e.0) c.0 c.1 s) ∙ sym (ap right s))
+      let c = clients_at e.0 e.1 all.0 in
+      ap (λ o. or_else o (cond others (object_at targets l q) None)) (not_here targets q e.0 e.1 (layout_at l e.0) (names_of l.tree e.0) c.0 c.1 s) ∙ sym (ap right s))
 
   absent : (q d : Fid) (o : Option Node) (ly : Layout) (names : Names) → cond (is_some o) (object_in targets q d o ly names) None ≡ object_in targets q d o ly names
   absent q d None ly names = refl

@@ -119,9 +119,11 @@ pub goes_migrated : (targets batch : ℕ) (d : Fid) (l : Laid) (n : Node) (old :
 goes_migrated targets batch d l n old names count index has v fits dir c few_old few newer fits_new ok kids =
     let new = layout_with count index (suc old.generation) in
     at_one targets (migrate_updates targets batch d old new names) l (laid_after l (NextLayout d count index)) d (Some n) (Some n) old new names names has
-    (next_layout_has l d count index (Some n) old names has) (next_layout_only l d count index)
-    (owner_of_node d v, all_both d (created_stripes targets batch d new) _ (created_at_count targets batch d new new.count (λ z. c))
-      (all_both d _ (destroyed_stripes targets batch d old) (moves ((old.count == 0) && (new.count == 0))) (destroyed_at_count targets batch d old old.count (λ z. c))))
+    (next_layout_has l d count index (Some n) old names has) (next_layout_only l d count index) (
+      owner_of_node d v,
+      all_both d (created_stripes targets batch d new) _ (created_at_count targets batch d new new.count (λ z. c))
+          (all_both d _ (destroyed_stripes targets batch d old) (moves ((old.count == 0) && (new.count == 0))) (destroyed_at_count targets batch d old old.count (λ z. c))),
+    )
     (λ q e. here_migrated targets batch d q n old new names v fits dir few_old few newer fits_new ok kids)
   where
     moves : (b : Bool) → AreOf d (if b then [] else flat_map (moved_entry targets batch d old (layout_with count index (suc old.generation))) (entries names))

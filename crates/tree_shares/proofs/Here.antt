@@ -51,9 +51,9 @@ node_is_no_stripe targets d l q f v s [] = refl
 node_is_no_stripe targets d l q f v s (i ∷ is) =
     by_bool (same q (stripe_fid_of targets d l i))
     (λ t.
-      let a : q.ver ≡ f.ver = ap (λ (x : Fid). x.ver) (told_same q f s) in
-      let b : q.ver ≡ (stripe_fid_of targets d l i).ver = ap (λ (x : Fid). x.ver) (told_same q (stripe_fid_of targets d l i) t) in
-      absurd (omega (arith, a, b, v)))
+    let a : q.ver ≡ f.ver = ap (λ (x : Fid). x.ver) (told_same q f s) in
+    let b : q.ver ≡ (stripe_fid_of targets d l i).ver = ap (λ (x : Fid). x.ver) (told_same q (stripe_fid_of targets d l i) t) in
+    absurd (omega (arith, a, b, v)))
     (λ t. ap (λ b. b || one_of targets d l q is) t ∙ node_is_no_stripe targets d l q f v s is)
 
 -- one of the stripes is the one of its index
@@ -98,8 +98,8 @@ effects_created targets batch d l q fits (i ∷ is) low o =
     effects_created targets batch d l q fits is low.1 (touched u q o)
     ∙ by_bool (same q (stripe_fid_of targets d l i))
     (λ s.
-      let one : touched u q o ≡ made (index_in l q) = ap (λ b. cond b (effect u o) o) s ∙ effect_create_stripe batch d i (stripe_fid_of targets d l i) o fits low.0 ∙ ap made (sym (one_of_index targets d l q i s)) in
-      ap (cond (one_of targets d l q is) (made (index_in l q))) one ∙ same_choice (one_of targets d l q is) (made (index_in l q)) ∙ sym (ap right s))
+    let one : touched u q o ≡ made (index_in l q) = ap (λ b. cond b (effect u o) o) s ∙ effect_create_stripe batch d i (stripe_fid_of targets d l i) o fits low.0 ∙ ap made (sym (one_of_index targets d l q i s)) in
+    ap (cond (one_of targets d l q is) (made (index_in l q))) one ∙ same_choice (one_of targets d l q is) (made (index_in l q)) ∙ sym (ap right s))
     (λ s. ap (λ b. cond (one_of targets d l q is) (made (index_in l q)) (cond b (effect u o) o)) s ∙ sym (ap right s))
   where
     same_choice : (b : Bool) (x : Option Object) → cond b x x ≡ x
@@ -151,9 +151,9 @@ here_created targets batch f q n l v fits few allowed u g p bare =
     ∙ ap (λ o. cond (among targets f l q) (Some o) (cond (same q f) (Some (node_object n l empty)) None)) (stripe (index_in l q))
     ∙ by_bool (same q f)
     (λ s. ap (λ b. cond b (Some (stripe_object f l empty (index_in l q))) (cond (same q f) (Some (node_object n l empty)) None)) (node_is_no_stripe targets f l q f v s (range_with_len 0 l.count))
-      ∙ ap (λ b. cond b (Some (node_object n l empty)) None) s ∙ sym (ap (λ b. cond b (Some (node_object n l empty)) (stripe_in targets f l empty q)) s))
+    ∙ ap (λ b. cond b (Some (node_object n l empty)) None) s ∙ sym (ap (λ b. cond b (Some (node_object n l empty)) (stripe_in targets f l empty q)) s))
     (λ s. ap (λ b. cond (among targets f l q) (Some (stripe_object f l empty (index_in l q))) (cond b (Some (node_object n l empty)) None)) s
-      ∙ sym (ap (λ b. cond b (Some (node_object n l empty)) (stripe_in targets f l empty q)) s))
+    ∙ sym (ap (λ b. cond b (Some (node_object n l empty)) (stripe_in targets f l empty q)) s))
 
 -- ---- a node that goes
 
@@ -232,15 +232,15 @@ module _ (targets : ℕ) (k : Kind) (batch : ℕ) (d : Fid) (x : List ℕ) (ps :
       let shown : Names → Bool → Option Object = λ m b. cond b (Some (stripe_object d l m K)) None in
       by_bool (same q (stripe_fid_of targets d l (part_of_name l x)))
       (λ s.
-        let am = stripe_is_among targets d l q (part_of_name l x) low s in
-        let same_names = here K (is_it s) in
-        ap (λ b. cond b (E (S names)) (S names)) s ∙ ap (λ b. E (shown names b)) am ∙ some (stripe_object d l names K)
-        ∙ (λ i. Some (record { body = stripe_of_directory d K; entries = sym same_names i; attributes = empty })) ∙ sym (ap (shown (g names)) am))
+      let am = stripe_is_among targets d l q (part_of_name l x) low s in
+      let same_names = here K (is_it s) in
+      ap (λ b. cond b (E (S names)) (S names)) s ∙ ap (λ b. E (shown names b)) am ∙ some (stripe_object d l names K)
+      ∙ (λ i. Some (record { body = stripe_of_directory d K; entries = sym same_names i; attributes = empty })) ∙ sym (ap (shown (g names)) am))
       (λ s. ap (λ b. cond b (E (S names)) (S names)) s ∙ by_bool (among targets d l q)
-        (λ am.
-          let same_names = there K (isnt_it s am) in
-          ap (shown names) am ∙ (λ i. Some (record { body = stripe_of_directory d K; entries = sym same_names i; attributes = empty })) ∙ sym (ap (shown (g names)) am))
-        (λ am. ap (shown names) am ∙ sym (ap (shown (g names)) am)))
+      (λ am.
+      let same_names = there K (isnt_it s am) in
+      ap (shown names) am ∙ (λ i. Some (record { body = stripe_of_directory d K; entries = sym same_names i; attributes = empty })) ∙ sym (ap (shown (g names)) am))
+      (λ am. ap (shown names) am ∙ sym (ap (shown (g names)) am)))
 
   or_false : (b : Bool) → (b || false) ≡ b
   or_false true = refl
@@ -253,8 +253,8 @@ module _ (targets : ℕ) (k : Kind) (batch : ℕ) (d : Fid) (x : List ℕ) (ps :
       let right : Bool → Option Object = λ b. cond b (N empty) (S (g names)) in
       by_bool (same q d)
       (λ s.
-        let apart : same q p ≡ false = sym (or_false (same q p)) ∙ node_is_no_stripe targets d l q d v s (part_of_name l x ∷ []) in
-        ap left s ∙ ap (λ b. cond b (E (N empty)) (N empty)) apart ∙ sym (ap right s))
+      let apart : same q p ≡ false = sym (or_false (same q p)) ∙ node_is_no_stripe targets d l q d v s (part_of_name l x ∷ []) in
+      ap left s ∙ ap (λ b. cond b (E (N empty)) (N empty)) apart ∙ sym (ap right s))
       (λ s. ap left s ∙ stripes some_count ∙ sym (ap right s))
 
   pub here_entry : effects (update k batch (entry_object targets d l x) ps ∷ []) q (object_in targets q d (Some n) l names) ≡ object_in targets q d (Some n) l (g names)
@@ -285,8 +285,8 @@ module _ (l : Layout) (i : ℕ) (x : List ℕ) (m : Names) (o : Option Fid) wher
   fails h y =
       by_bool (eq_by_cmp name_cmp y x)
       (λ s.
-        let out = ap (λ z. part_of_name l z == i) (name_same y x s) ∙ h in
-        ap (λ b. cond b (cond (eq_by_cmp name_cmp y x) o (get m y)) None) out ∙ sym (ap (λ b. cond b (get m y) None) out))
+      let out = ap (λ z. part_of_name l z == i) (name_same y x s) ∙ h in
+      ap (λ b. cond b (cond (eq_by_cmp name_cmp y x) o (get m y)) None) out ∙ sym (ap (λ b. cond b (get m y) None) out))
       (λ s. ap (λ b. cond (part_of_name l y == i) (cond b o (get m y)) None) s)
 
 pub inserted_in : (l : Layout) (i : ℕ) (x : List ℕ) (m : Names) (f : Fid) → (part_of_name l x == i) ≡ true → names_in l i (insert m x f) ≡ insert (names_in l i m) x f

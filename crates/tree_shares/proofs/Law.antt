@@ -26,7 +26,7 @@ use Rattle.out_update.specs.declared.update.Update.{Update}
 use Rattle.object_store.specs.Meaning.{after_all}
 use Rattle.tree_shares.specs.Shares.{share}
 use Rattle.tree_sound.specs.Sound.{IsSound}
-use Rattle.tree_shares.specs.Updates.{inserted, deleted, created_node, gone, rename_updates, op_updates, updates, placed_updates, part_for}
+use Rattle.tree_shares.specs.Updates.{inserted, deleted, created_node, gone, rename_updates, op_updates, updates, placed_updates, updates_at}
 use Rattle.tree_shares.proofs.Effects.{effects}
 use Rattle.tree_shares.proofs.Pointwise.{from_objects}
 use Rattle.tree_shares.proofs.Finding.{found_object}
@@ -107,13 +107,13 @@ module _ (targets batch most : ℕ) (few : targets ≤ 16) (l : Laid) (sound : I
       let whole : Bool → Type 0 = λ z. Made targets us l (if z then [] else big) in
       subst (λ (o : Option Fid). Made targets (rename_updates targets batch l p x q y o) l (renamed t p x q y o)) (sym c.1)
       (by_bool (same_place p x q y || same_node m (named t q y))
-        (λ z. subst whole (sym z) (λ w. refl))
-        (λ z.
-          let both = neither (same_place p x q y) (same_node m (named t q y)) z in
-          let inner : rest ≡ None = sym (ap (λ v. if v then None else rest) both.0) ∙ b.1 in
-          let there = (first_none (loop_fault t p q m) (there_fault (named t q y) (over_fault t m)) inner).1 in
-          let others = not_old_at l q y m k.0 k.1 k.2 (named t q y) refl there both.1 in
-          subst whole (sym z) (made_rename targets batch most few l sound bound p x q y m (named t q y) n.0 k.0 n.1 k.1 fits others.0 others.1)))
+      (λ z. subst whole (sym z) (λ w. refl))
+      (λ z.
+      let both = neither (same_place p x q y) (same_node m (named t q y)) z in
+      let inner : rest ≡ None = sym (ap (λ v. if v then None else rest) both.0) ∙ b.1 in
+      let there = (first_none (loop_fault t p q m) (there_fault (named t q y) (over_fault t m)) inner).1 in
+      let others = not_old_at l q y m k.0 k.1 k.2 (named t q y) refl there both.1 in
+      subst whole (sym z) (made_rename targets batch most few l sound bound p x q y m (named t q y) n.0 k.0 n.1 k.1 fits others.0 others.1)))
 
   migrate_goes : (d : Fid) (c i : ℕ) → op_fault targets t (ops.Migrate d c i) ≡ None → Made targets (op_updates targets batch l (ops.Migrate d c i)) l (op_changes t (ops.Migrate d c i))
   migrate_goes d c i h =
@@ -161,7 +161,7 @@ module _ (targets batch most : ℕ) (few : targets ≤ 16) (l : Laid) (sound : I
 
   -- the part of each target makes its share of the tree that of the next
   pub parts_make_shares : (more : ℕ) (op : Op) → IsOp targets op → IsSound targets more (laid_step targets l op) → (target : ℕ)
-      → after_all (share targets l target) (part_for target (placed_updates targets batch l op)) ≡ share targets (laid_step targets l op) target
+      → after_all (share targets l target) (updates_at target (placed_updates targets batch l op)) ≡ share targets (laid_step targets l op) target
   parts_make_shares more op is after_sound target =
       from_objects targets l (laid_step targets l op) (updates targets batch l op)
       (λ q. ap (effects (updates targets batch l op) q) (found_object targets most few l sound q) ∙ all_go op is q ∙ sym (found_object targets more few (laid_step targets l op) after_sound q)) target

@@ -20,3 +20,7 @@ pub mod Counts
 pub mod Sizes
 pub mod Others
 pub mod Telling
+pub mod Sets
+pub mod Parting
+pub mod Seating
+pub mod Alike

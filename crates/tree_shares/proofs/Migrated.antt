@@ -68,11 +68,11 @@ module _ (hit : List ℕ → Bool) (dl : Bool) where
       got_all names es all.1 (moved_names e m) y ∙ ap out (got_moved (hit e.0) e.0 e.1 m y)
       ∙ by_bool (eq_by_cmp name_cmp y e.0)
       (λ s.
-        let is = name_same y e.0 s in
-        ap (λ b. out (value b)) s
-        ∙ ap (λ o. out (cond (hit e.0) o (cond dl None (get m y)))) (sym all.0)
-        ∙ ap (λ x. out (cond (hit x) (get names x) (cond dl None (get m y)))) (sym is)
-        ∙ settled rest (hit y) dl (get names y) (get m y) ∙ sym (ap right s))
+      let is = name_same y e.0 s in
+      ap (λ b. out (value b)) s
+      ∙ ap (λ o. out (cond (hit e.0) o (cond dl None (get m y)))) (sym all.0)
+      ∙ ap (λ x. out (cond (hit x) (get names x) (cond dl None (get m y)))) (sym is)
+      ∙ settled rest (hit y) dl (get names y) (get m y) ∙ sym (ap right s))
       (λ s. ap (λ b. out (value b)) s ∙ sym (ap right s))
     where
       settled : (r h d : Bool) (a b : Option Fid) → cond r (cond h a (cond d None (cond h a (cond d None b)))) (cond h a (cond d None b)) ≡ cond h a (cond d None b)
@@ -219,6 +219,7 @@ module _ (targets batch : ℕ) (d q : Fid) (n : Node) (old new : Layout) (names 
       one : (b : Bool) → ◌≡◌ {A = Option Object} (cond b None None) None
       one true = refl
       one false = refl
+
       two : (a b : Bool) → ◌≡◌ {A = Option Object} (cond b (effect (inserted targets batch d new e.0 e.1) (cond a None None)) (cond a None None)) None
       two true true = refl
       two true false = refl
@@ -253,7 +254,7 @@ module _ (targets batch : ℕ) (d q : Fid) (n : Node) (old new : Layout) (names 
       elim (eqb_tells new.count 0) [
         | inl h ↦ ap (λ b. same q (cond b d (stripe_fid_of targets d new (part_of_name new y)))) h.0 ∙ s ∙ sym h.0
         | inr h ↦ ap (λ b. same q (cond b d (stripe_fid_of targets d new (part_of_name new y)))) h.0
-          ∙ sym (or_false (same q (stripe_fid_of targets d new (part_of_name new y)))) ∙ node_is_no_stripe targets d new q d v s (part_of_name new y ∷ []) ∙ sym h.0
+            ∙ sym (or_false (same q (stripe_fid_of targets d new (part_of_name new y)))) ∙ node_is_no_stripe targets d new q d v s (part_of_name new y ∷ []) ∙ sym h.0
       ] in
       let drop_is : drop ≡ A = ap (λ b. A && b) s ∙ and_true A in
       let was = got_own A names y in
@@ -268,6 +269,7 @@ module _ (targets batch : ℕ) (d q : Fid) (n : Node) (old new : Layout) (names 
       or_false : (b : Bool) → (b || false) ≡ b
       or_false true = refl
       or_false false = refl
+
       and_true : (b : Bool) → (b && true) ≡ b
       and_true true = refl
       and_true false = refl

@@ -37,12 +37,12 @@ goes_released targets batch m c (Some n) ly names has ready =
     by_bool n.dir
     (λ d. subst (λ b. P b (nat_le n.links 1)) (sym d) (goes_destroyed targets batch c m n ly names has ready.0 ready.1))
     (λ d. by_bool (nat_le n.links 1)
-      (λ e. subst (λ b. P b (nat_le n.links 1)) (sym d) (subst (λ b. P false b) (sym e)
-        (let plain = ready.3 d in
-        subst (λ y. Goes targets (update kind.RefDel batch c [] ∷ []) m (laid_after m (DropNode c))) plain
-        (goes_last targets batch c m n names (record { node = has.node; layout = has.layout ∙ plain; names_are = has.names_are }) ready.0 d e))))
-      (λ e. subst (λ b. P b (nat_le n.links 1)) (sym d) (subst (λ b. P false b) (sym e)
-        (goes_node targets kind.RefDel batch c [] m n again ly names has ready.0 (effect_ref_del batch c n ly names d ready.2 e)))))
+    (λ e. subst (λ b. P b (nat_le n.links 1)) (sym d) (subst (λ b. P false b) (sym e)
+    (let plain = ready.3 d in
+    subst (λ y. Goes targets (update kind.RefDel batch c [] ∷ []) m (laid_after m (DropNode c))) plain
+    (goes_last targets batch c m n names (record { node = has.node; layout = has.layout ∙ plain; names_are = has.names_are }) ready.0 d e))))
+    (λ e. subst (λ b. P b (nat_le n.links 1)) (sym d) (subst (λ b. P false b) (sym e)
+    (goes_node targets kind.RefDel batch c [] m n again ly names has ready.0 (effect_ref_del batch c n ly names d ready.2 e)))))
 
 pub goes_parent : (targets batch : ℕ) (m : Laid) (p q f : Fid) (o : Option Node) (ly : Layout) (names : Names) → Has m f o ly names → IsReady f o ly → IsFid q
     → Goes targets (parent_updates batch p q f o) m (laid_after_all m (moved_node p q f o))
@@ -99,8 +99,8 @@ module _ (targets batch most : ℕ) (few : targets ≤ 16) (l : Laid) (sound : I
       subst (λ z. Goes targets (deleted targets batch p (layout_at l p) x ∷ (us ++ (inserted targets batch q (layout_at l q) y m ∷ tail))) l z)
       (sym (laid_append first (replaced l.tree old) (PutName q y m ∷ moved_node p q m (get l.tree.nodes m))))
       (along targets (deleted targets batch p (layout_at l p) x ∷ []) (us ++ (inserted targets batch q (layout_at l q) y m ∷ tail)) l first last
-        (goes_deleted targets batch p x l n (layout_at l p) (names_of l.tree p) (has_node targets batch most few l sound bound p n e) s.version (clients targets batch most few l sound bound p n e))
-        (along targets us (inserted targets batch q (layout_at l q) y m ∷ tail) first second last (goes_replaced first old (λ f. refl) (λ f. refl))
-          (along targets (inserted targets batch q (layout_at l q) y m ∷ []) tail second third last
-            (goes_inserted targets batch q y m second k (layout_at l q) (names_of second.tree q) (record { node = at_q.node ∙ h; layout = at_q.layout; names_are = refl }) t.version (clients targets batch most few l sound bound q k h) fits)
-            (goes_parent targets batch third p q m (get l.tree.nodes m) (layout_at l m) (names_of third.tree m) (record { node = at_m.node; layout = at_m.layout; names_are = refl }) (ready m) t.fid))))
+      (goes_deleted targets batch p x l n (layout_at l p) (names_of l.tree p) (has_node targets batch most few l sound bound p n e) s.version (clients targets batch most few l sound bound p n e))
+      (along targets us (inserted targets batch q (layout_at l q) y m ∷ tail) first second last (goes_replaced first old (λ f. refl) (λ f. refl))
+      (along targets (inserted targets batch q (layout_at l q) y m ∷ []) tail second third last
+      (goes_inserted targets batch q y m second k (layout_at l q) (names_of second.tree q) (record { node = at_q.node ∙ h; layout = at_q.layout; names_are = refl }) t.version (clients targets batch most few l sound bound q k h) fits)
+      (goes_parent targets batch third p q m (get l.tree.nodes m) (layout_at l m) (names_of third.tree m) (record { node = at_m.node; layout = at_m.layout; names_are = refl }) (ready m) t.fid))))

@@ -138,7 +138,7 @@ module _ (targets batch most : ℕ) (few : targets ≤ 16) (l : Laid) (sound : I
       let s = at_node p n e in
       along targets (created_node batch f dir ly ∷ created_stripes targets batch f ly) (inserted targets batch p (layout_at l p) x f ∷ []) l o (laid_after o (PutName p x f))
       (goes_created targets batch f dir ly l o was (new_layout_has m f k i (Some dir) plain_layout empty (put_node_has l f dir dir None plain_layout empty was)) (only_twice l m o f (put_node_only l f dir) (new_layout_only m f k i))
-        c.version fits (λ z. c) lay.2 (directory_allowed dir ly refl refl lay.1) (omega arith) (omega arith) s.fid refl)
+      c.version fits (λ z. c) lay.2 (directory_allowed dir ly refl refl lay.1) (omega arith) (omega arith) s.fid refl)
       (goes_inserted targets batch p x f o n (layout_at l p) (names_of l.tree p) p_is s.version (clients p n e) fits)
 
   pub made_link : (p : Fid) (x : List ℕ) (f : Fid) (n k : Node) → IsFid f → get l.tree.nodes p ≡ Some n → n.dir ≡ true → get l.tree.nodes f ≡ Some k → k.dir ≡ false → k.links < 65000

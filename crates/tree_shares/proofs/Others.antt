@@ -11,7 +11,7 @@ use Rattle.tree_model.proofs.Fids.{fid_ties}
 use Rattle.out_update.specs.declared.update.Update.{Update}
 use Rattle.object_store.specs.Meaning.{after_all}
 use Rattle.tree_shares.specs.Shares.{share}
-use Rattle.tree_shares.specs.Updates.{updates, placed_one, placed, part_for}
+use Rattle.tree_shares.specs.Updates.{updates, placed_one, placed, updates_at}
 use Rattle.tree_shares.specs.Wrote.{is_among}
 use Rattle.tree_shares.specs.ShareLaws.{OthersStay}
 use Rattle.tree_shares.proofs.Written.{updates_name_what_is_written}
@@ -35,14 +35,14 @@ module _ (targets set target : ℕ) (out : is_member set target ≡ false) where
   IsOn : Fid → Type 0
   IsOn x = (t : ℕ) × (place_of targets x ≡ Some t) × (is_member set t ≡ true)
 
-  none_of : (us : List Update) → AllByRecursion (λ u. (t : ℕ) × (place_of targets u.fid ≡ Some t) × (is_member set t ≡ true)) us → part_for target (placed targets us) ≡ []
+  none_of : (us : List Update) → AllByRecursion (λ u. (t : ℕ) × (place_of targets u.fid ≡ Some t) × (is_member set t ≡ true)) us → updates_at target (placed targets us) ≡ []
   none_of [] h = refl
   none_of (u ∷ us) h =
       let at = h.0 in
-      ap (λ p. part_for target (placed_one p u (placed targets us))) at.1
+      ap (λ p. updates_at target (placed_one p u (placed targets us))) at.1
       ∙ elim (eqb_tells at.0 target) [
         | inl e ↦ not_both (is_member set target) (ap (λ k. is_member set k) (sym e.1) ∙ at.2) out
-        | inr e ↦ ap (λ b. if b then u ∷ part_for target (placed targets us) else part_for target (placed targets us)) e.0 ∙ none_of us h.1
+        | inr e ↦ ap (λ b. if b then u ∷ updates_at target (placed targets us) else updates_at target (placed targets us)) e.0 ∙ none_of us h.1
       ]
 
 all_on : (P : Fid → Type 0) (ys : List Fid) (us : List Update) → ((x : Fid) → is_among ys x ≡ true → P x) → AllByRecursion (λ u. is_among ys u.fid ≡ true) us → AllByRecursion (λ u. P u.fid) us

@@ -355,9 +355,10 @@ module _ (targets batch : ℕ) (one : 1 ≤ targets) (few : targets ≤ 16) (sma
         let ly = layout_with k i 0 in
         let lay = lay_of k i 0 few_k low (omega arith) in
         let at_f : Placed f ly = record { fid = fits; client = λ z. client_facts targets f few client; few = lay.few; wide = lay.wide } in
-        let at_p = placed_at p n e in
-        (spell kind.Create f (body_bytes (directory_body (directory_in p) ly) ∷ []) refl fits (p_body (body_bytes (directory_body (directory_in p) ly)) (directory_len p ly) (is_dir_body p ly at_p.fid lay)),
-          all_app (created_stripes targets batch f ly) (inserted targets batch p (layout_at l p) x f ∷ []) (all_created f ly at_f ly.count lay.few at_f.client) (inserted_spells p (layout_at l p) x f at_p name, tt))
+        let at_p = placed_at p n e in (
+          spell kind.Create f (body_bytes (directory_body (directory_in p) ly) ∷ []) refl fits (p_body (body_bytes (directory_body (directory_in p) ly)) (directory_len p ly) (is_dir_body p ly at_p.fid lay)),
+          all_app (created_stripes targets batch f ly) (inserted targets batch p (layout_at l p) x f ∷ []) (all_created f ly at_f ly.count lay.few at_f.client) (inserted_spells p (layout_at l p) x f at_p name, tt),
+        )
 
     names_named : (names : Names) (es : List (List ℕ × Fid)) → ((x : List ℕ) (c : Fid) → get names x ≡ Some c → IsName x) → AllByRecursion (λ e. get names e.0 ≡ Some e.1) es → AllByRecursion (λ e. IsName e.0) es
     names_named names [] h all = tt
@@ -373,11 +374,12 @@ module _ (targets batch : ℕ) (one : 1 ≤ targets) (few : targets ≤ 16) (sma
         let p = placed_at d n e in
         let clients = client_facts targets d few (s.known not_root) in
         let r : Placed d new = record { fid = s.fid; client = λ z. clients; few = lay.few; wide = lay.wide } in
-        let names = names_of t d in
-        (spell kind.LayoutSet d (layout_text new ∷ []) refl s.fid (p_layout new),
+        let names = names_of t d in (
+          spell kind.LayoutSet d (layout_text new ∷ []) refl s.fid (p_layout new),
           all_app (created_stripes targets batch d new) _ (all_created d new r new.count lay.few r.client)
-          (all_app _ (destroyed_stripes targets batch d old) (moves ((old.count == 0) && (new.count == 0)) (moves_spell d old new p r (entries names) (names_named names (entries names) s.are_names (entries_got names_total names))))
-            (all_destroyed d old p old.count p.few p.client)))
+              (all_app _ (destroyed_stripes targets batch d old) (moves ((old.count == 0) && (new.count == 0)) (moves_spell d old new p r (entries names) (names_named names (entries names) s.are_names (entries_got names_total names))))
+              (all_destroyed d old p old.count p.few p.client)),
+        )
       where
         moves : (b : Bool) → AllSpell (flat_map (moved_entry targets batch d (layout_at l d) (layout_with c i (suc (layout_at l d).generation))) (entries (names_of t d)))
             → AllSpell (if b then [] else flat_map (moved_entry targets batch d (layout_at l d) (layout_with c i (suc (layout_at l d).generation))) (entries (names_of t d)))
@@ -421,9 +423,10 @@ module _ (targets batch : ℕ) (one : 1 ≤ targets) (few : targets ≤ 16) (sma
         let c = found_none (named t p x) (moved_fault t p x q y) a.1 in
         let b = first_none (parent_fault (get t.nodes q)) _ c.2 in
         let k = parent_none (get t.nodes q) b.0 in
-        subst (λ (o : Option Fid). AllSpell (rename_updates targets batch l p x q y o)) (sym c.1)
-        (deleted_spells p (layout_at l p) x (placed_at p n.0 n.1) is.1,
-          all_app (gone targets batch l (named t q y)) _ (all_gone (named t q y)) (inserted_spells q (layout_at l q) y c.0 (placed_at q k.0 k.1) is.3, parent_spells p q c.0 (get t.nodes c.0) refl))
+        subst (λ (o : Option Fid). AllSpell (rename_updates targets batch l p x q y o)) (sym c.1) (
+          deleted_spells p (layout_at l p) x (placed_at p n.0 n.1) is.1,
+          all_app (gone targets batch l (named t q y)) _ (all_gone (named t q y)) (inserted_spells q (layout_at l q) y c.0 (placed_at q k.0 k.1) is.3, parent_spells p q c.0 (get t.nodes c.0) refl),
+        )
     op_spells (ops.SetAttr f mode uid gid) is h = (spell kind.AttrSet f (attributes_bytes mode uid gid ∷ []) refl is.0.0 (p_attributes mode uid gid), tt)
     op_spells (ops.SetXattr f x v) is h = (spell kind.XattrSet f (x ∷ v ∷ []) refl is.0.0 (p_value x v is.1 is.2.1), tt)
     op_spells (ops.DelXattr f x) is h = (spell kind.XattrDel f (x ∷ []) refl is.0.0 (p_name x is.1), tt)

@@ -63,14 +63,14 @@ module _ (targets most : ℕ) (few : targets ≤ 16) (l : Laid) (sound : IsSound
   told f =
       by_bool (nat_lt 0 f.ver)
       (λ h.
-        let d = directory_of f in
-        let is : owner f ≡ d = ap (λ b. cond b (directory_of f) f) h in
-        let apart : same f d ≡ false = by_bool (same f d) (λ s. not_both (nat_lt 0 f.ver) h (ap (λ (x : Fid). nat_lt 0 x.ver) (told_same f d s))) (λ s. s) in
-        ap (λ x. node (object_from targets l f x)) is ∙ told_other f d (get l.tree.nodes d) (layout_at l d) (names_of l.tree d) apart
-        ∙ sym (ap (λ o. option_map (λ n. node_object n (layout_at l f) (names_of l.tree f)) o) (no_version f (get l.tree.nodes f) refl h)))
+      let d = directory_of f in
+      let is : owner f ≡ d = ap (λ b. cond b (directory_of f) f) h in
+      let apart : same f d ≡ false = by_bool (same f d) (λ s. not_both (nat_lt 0 f.ver) h (ap (λ (x : Fid). nat_lt 0 x.ver) (told_same f d s))) (λ s. s) in
+      ap (λ x. node (object_from targets l f x)) is ∙ told_other f d (get l.tree.nodes d) (layout_at l d) (names_of l.tree d) apart
+      ∙ sym (ap (λ o. option_map (λ n. node_object n (layout_at l f) (names_of l.tree f)) o) (no_version f (get l.tree.nodes f) refl h)))
       (λ h.
-        let is : owner f ≡ f = ap (λ b. cond b (directory_of f) f) h in
-        ap (λ x. node (object_from targets l f x)) is ∙ told_node f (get l.tree.nodes f) (layout_at l f) (names_of l.tree f))
+      let is : owner f ≡ f = ap (λ b. cond b (directory_of f) f) h in
+      ap (λ x. node (object_from targets l f x)) is ∙ told_node f (get l.tree.nodes f) (layout_at l f) (names_of l.tree f))
 
   told_stripe : (d : Fid) (n : Node) (i : ℕ) → get l.tree.nodes d ≡ Some n → i < (layout_at l d).count → object_at targets l (stripe_fid_of targets d (layout_at l d) i) ≡ Some (stripe_object d (layout_at l d) (names_of l.tree d) i)
   told_stripe d n i e low =
@@ -118,8 +118,8 @@ stripes_told targets most l d n i target few sound e low is =
 pub empty_told : EmptyIsTold
 empty_told l names some = (
   λ none. same_map names_total exact_names _ _ (λ x.
-    let p = part_of_name l x in
-    let bare : names_in l p names ≡ empty = empty_of_len (names_in l p names) (none p (part_below l.count l.start l.generation x some)) in
-    sym (got_in l p names x ∙ ap (λ b. cond b (get names x) None) (eq-eqb p p refl)) ∙ ap (λ (m : Names). get m x) bare),
+      let p = part_of_name l x in
+      let bare : names_in l p names ≡ empty = empty_of_len (names_in l p names) (none p (part_below l.count l.start l.generation x some)) in
+      sym (got_in l p names x ∙ ap (λ b. cond b (get names x) None) (eq-eqb p p refl)) ∙ ap (λ (m : Names). get m x) bare),
   λ e i. ap (λ (m : Names). len (names_in l i m)) e ∙ ap (λ (m : Names). len m) (names_in_none l i) ∙ len-empty name_cmp Fid,
 )

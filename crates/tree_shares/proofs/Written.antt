@@ -104,14 +104,15 @@ module _ (targets batch : ℕ) (d : Fid) (l : Layout) (x : Fid) where
         | inl h ↦ ap left h.0 ∙ twice (same_fid d x) St
         | inr h ↦ ap left h.0 ∙ by_bool (same_fid p x)
             (λ s.
-              let in_it = low_is_among l.count (part_of_name l y) (part_below l.count l.start l.generation y h.1) s in
-              ap (λ b. same_fid p x || (same_fid d x || b)) in_it ∙ all (same_fid p x) (same_fid d x) ∙ sym (ap (λ b. same_fid d x || b) in_it))
+            let in_it = low_is_among l.count (part_of_name l y) (part_below l.count l.start l.generation y h.1) s in
+            ap (λ b. same_fid p x || (same_fid d x || b)) in_it ∙ all (same_fid p x) (same_fid d x) ∙ sym (ap (λ b. same_fid d x || b) in_it))
             (λ s. ap (λ b. b || (same_fid d x || St)) s)
       ]
     where
       twice : (a b : Bool) → (a || (a || b)) ≡ (a || b)
       twice true b = refl
       twice false b = refl
+
       all : (a b : Bool) → (a || (b || true)) ≡ (b || true)
       all true true = refl
       all true false = refl
@@ -164,11 +165,11 @@ module _ (targets most batch : ℕ) (l : Laid) (sound : IsSound targets most l) 
       let dropped : W (DropNode c ∷ []) ≡ (C || S) = ap (λ b. C || b) (among-append (stripes_of targets c ly) [] x ∙ or_false S) in
       by_bool n.dir
       (λ d. subst (λ b. goes b (nat_le n.links 1)) (sym d)
-        (N-append (destroyed_stripes targets batch c ly) (destroy_of batch c ∷ []) x ∙ ap (λ b. b || (C || false)) (destroyed_named targets batch c ly x) ∙ ap (λ b. S || b) (or_false C) ∙ or_swap S C ∙ sym dropped))
+      (N-append (destroyed_stripes targets batch c ly) (destroy_of batch c ∷ []) x ∙ ap (λ b. b || (C || false)) (destroyed_named targets batch c ly x) ∙ ap (λ b. S || b) (or_false C) ∙ or_swap S C ∙ sym dropped))
       (λ d. subst (λ b. goes b (nat_le n.links 1)) (sym d)
-        (by_bool (nat_le n.links 1)
-          (λ z. subst (λ b. goes false b) (sym z) (ap (λ b. C || b) (sym (no_stripes c ((facts targets most l sound c n e).bare d))) ∙ sym dropped))
-          (λ z. subst (λ b. goes false b) (sym z) refl)))
+      (by_bool (nat_le n.links 1)
+      (λ z. subst (λ b. goes false b) (sym z) (ap (λ b. C || b) (sym (no_stripes c ((facts targets most l sound c n e).bare d))) ∙ sym dropped))
+      (λ z. subst (λ b. goes false b) (sym z) refl)))
 
   abbrev Same : List Update → List Change → Type 0
   Same us cs = N (unless_none cs us) x ≡ W cs
@@ -216,6 +217,7 @@ module _ (targets most batch : ℕ) (l : Laid) (sound : IsSound targets most l) 
     where
       after_insert : (N (inserted targets batch d new e.0 e.1 ∷ []) x || (same_fid d x || is_among (stripes_of targets d new) x)) ≡ (same_fid d x || is_among (stripes_of targets d new) x)
       after_insert = ap (λ b. b || (same_fid d x || is_among (stripes_of targets d new) x)) (or_false (same_fid (entry_object targets d new e.0) x)) ∙ entry_absorbed targets batch d new x e.0
+
       one : (N (moved_entry targets batch d old new e) x || (same_fid d x || is_among (stripes_of targets d new) x)) ≡ (same_fid d x || is_among (stripes_of targets d new) x)
       one =
           let all = same_fid d x || is_among (stripes_of targets d new) x in
@@ -247,6 +249,7 @@ module _ (targets most batch : ℕ) (l : Laid) (sound : IsSound targets most l) 
           ≡ (same_fid d x || is_among (stripes_of targets d (layout_with c i (suc (layout_at l d).generation))) x)
       absorbed true = refl
       absorbed false = moves_absorbed d (layout_at l d) (layout_with c i (suc (layout_at l d).generation)) (entries (names_of t d))
+
       mixed : (a s m o : Bool) → (m || (a || s)) ≡ (a || s) → (a || (s || (m || o))) ≡ (a || (o || s))
       mixed true s m o h = refl
       mixed false true m true h = refl
@@ -260,6 +263,7 @@ module _ (targets most batch : ℕ) (l : Laid) (sound : IsSound targets most l) 
     where
       big : List Change
       big = DropName p y ∷ (replaced t (named t q z) ++ (PutName q z m ∷ moved_node p q m (get t.nodes m)))
+
       whole : N (rename_updates targets batch l p y q z (Some m)) x ≡ W (DropName p y ∷ (replaced t (named t q z) ++ (PutName q z m ∷ moved_node p q m (get t.nodes m))))
       whole =
           let last = parent_updates batch p q m (get t.nodes m) in
@@ -269,6 +273,7 @@ module _ (targets most batch : ℕ) (l : Laid) (sound : IsSound targets most l) 
           ∙ ap (λ b. P p y || (W (replaced t (named t q z)) || (b || W (moved_node p q m (get t.nodes m))))) (part_same q z)
           ∙ ap (λ b. b || (W (replaced t (named t q z)) || W (PutName q z m ∷ moved_node p q m (get t.nodes m)))) (part_same p y)
           ∙ ap (λ b. same_fid (part_named targets p (layout_at l p) y) x || b) (sym (W-append (replaced t (named t q z)) (PutName q z m ∷ moved_node p q m (get t.nodes m))))
+
       by_case : (b : Bool) → Same (rename_updates targets batch l p y q z (Some m)) (if b then [] else DropName p y ∷ (replaced t (named t q z) ++ (PutName q z m ∷ moved_node p q m (get t.nodes m))))
       by_case true = refl
       by_case false = whole

@@ -1,0 +1,14 @@
+pub mod Ground
+pub mod Lists
+pub mod Names
+pub mod Stripes
+pub mod Facts
+pub mod Walks
+pub mod Places
+pub mod Alike
+pub mod Targets
+pub mod Final
+pub mod Asked
+pub mod Near
+pub mod Known
+pub mod Joined

@@ -1,0 +1,4 @@
+pub mod Objects
+pub mod Near
+pub mod Laws
+pub mod PartTies

@@ -11,12 +11,11 @@ use Rattle.tree_model.specs.declared.op.Op.TheVariants as ops
 use Rattle.tree_model.specs.declared.reply.Reply.{Reply}
 use Rattle.tree_model.specs.declared.reply.Reply.TheVariants as replies
 use Rattle.tree_model.specs.Tree.{Names, names_of, named, same_fid, root_fid, file_node, directory_in}
-use Rattle.tree_model.specs.Changes.{Change, PutNode, PutName}
-use Rattle.tree_model.specs.Keys.{Key, NodeKey, NameKey, AllKey, Value, NodeValue, NameValue, AllValue, Layout, Laid, at, layout_at, layout_with, plain_layout}
+use Rattle.tree_model.specs.Changes.{Change}
+use Rattle.tree_model.specs.Keys.{NodeKey, NameKey, AllKey, Value, NodeValue, NameValue, AllValue, Layout, Laid, at, layout_at, layout_with, plain_layout}
 use Rattle.tree_model.specs.Looks.{Plan, AskNode, AskName, AskAll, Decide, decided, asked, check, found, on_directory, walk, whole_walk, rename_to, replace_plan, create_plan, plan, changes}
-use Rattle.tree_model.specs.Step.{client_fault, layout_fault, taken_fault, absent_fault, link_fault, file_fault, directory_fault, setxattr_fault, xattr_fault, stripes_fault, attr_reply, xattr_reply, parent_fault, is_dir, kind_fault, empty_fault, same_place, parent_of, released, changed_node, new_layout}
+use Rattle.tree_model.specs.Step.{client_fault, layout_fault, taken_fault, absent_fault, link_fault, file_fault, directory_fault, setxattr_fault, xattr_fault, stripes_fault, attr_reply, xattr_reply, parent_fault, is_dir, kind_fault, empty_fault, same_place, parent_of, released, changed_node}
 use Rattle.tree_model.specs.Laws.{Agree}
-use Rattle.tree_model.specs.Striped.{on}
 use Rattle.tree_model.proofs.Deciding.{same_plan}
 use Rattle.tree_model.proofs.Placing.{same_on}
 use Rattle.out_update.specs.declared.update.Update.{Update}

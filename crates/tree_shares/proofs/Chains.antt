@@ -1,12 +1,10 @@
 -- Updates that make the objects of one tree those of another, one change after another.
-use Rattle.std.proofs.Common.{◌≡◌, ℕ, suc, Bool, true, false, cond, List, [], ◌∷◌, ◌++◌, Option, Some, None, refl, sym, ap, ◌∙◌}
+use Rattle.std.proofs.Common.{◌≡◌, ℕ, false, cond, List, [], ◌∷◌, ◌++◌, Option, refl, sym, ap, ◌∙◌}
 use Rattle.std.specs.List.{AllByRecursion}
-use Rattle.std.specs.Option.{unwrap_or}
-use Rattle.std.specs.FinMap.{get, insert, remove, get-insert, get-remove}
 use Rattle.fid_space.specs.declared.fid.Fid.{Fid}
 use Rattle.tree_model.specs.declared.node.Node.{Node}
-use Rattle.tree_model.specs.Tree.{Names, names_of}
-use Rattle.tree_model.specs.Keys.{Layout, Laid, layout_at, layout_with, plain_layout, laid_after}
+use Rattle.tree_model.specs.Tree.{Names}
+use Rattle.tree_model.specs.Keys.{Layout, Laid}
 use Rattle.tree_model.proofs.Fids.{told_same}
 use Rattle.out_update.specs.declared.update.Update.{Update}
 use Rattle.object_store.specs.Objects.{Object}

@@ -1,10 +1,8 @@
 -- What updates do to one object, whatever target it is on.
 use Rattle.std.proofs.Common.{◌≡◌, ◌==◌, ℕ, Bool, true, false, cond, if◌then◌else◌, List, [], ◌∷◌, ◌++◌, Option, Some, None, refl, sym, ap, ◌∙◌}
-use Rattle.std.specs.Ordering.{eq_by_cmp}
 use Rattle.std.specs.FinMap.{get, insert, get-insert, get-remove}
 use Rattle.fid_space.specs.declared.fid.Fid.{Fid}
 use Rattle.fid_space.specs.Places.{place_of}
-use Rattle.tree_model.specs.Fids.{fid_cmp}
 use Rattle.tree_model.proofs.Maps.{fids_total}
 use Rattle.tree_model.proofs.Fids.{told_same}
 use Rattle.out_update.specs.declared.update.Update.{Update}
@@ -16,7 +14,7 @@ use Rattle.object_store.specs.Objects.{Object, ObjectMap, fresh}
 use Rattle.object_store.specs.Meaning.{param, changed, put_back, created, changed_there, after_kind, after, after_all}
 use Rattle.tree_shares.specs.Shares.{is_at}
 use Rattle.tree_shares.specs.Updates.{placed_one, placed, updates_at}
-use Rattle.tree_sound.proofs.Basics.{same, by_bool, not_both}
+use Rattle.tree_sound.proofs.Basics.{same, by_bool}
 
 abbrev pub created_at : Option Object → Option (Body × List ℕ) → Option Object
 created_at o None = o

@@ -1,7 +1,7 @@
 -- What a sound tree has at a FID, as objects need it.
-use Rattle.std.proofs.Common.{◌≡◌, ◌≢◌, ◌≤◌, ◌<◌, ◌+◌, ◌-◌, ◌==◌, ◌&&◌, nat_le, nat_lt, if◌then◌else◌, ⊎_elim, ℕ, zero, suc, Bool, true, false, true≢false, List, Option, Some, None, inl, inr, refl, sym, ap, subst, ◌∙◌, arith}
-use Rattle.std.proofs.lemmas.Bool.Decides.{nat_tests, eqb_tells}
-use Rattle.std.specs.FinMap.{get, empty}
+use Rattle.std.proofs.Common.{◌≡◌, ◌≢◌, ◌≤◌, ◌<◌, ◌==◌, ◌&&◌, nat_le, if◌then◌else◌, ⊎_elim, ℕ, zero, suc, Bool, true, false, List, Some, inl, inr, refl, ap, ◌∙◌, arith}
+use Rattle.std.proofs.lemmas.Bool.Decides.{nat_tests}
+use Rattle.std.specs.FinMap.{get}
 use Rattle.fid_space.specs.declared.fid.Fid.{Fid}
 use Rattle.fid_space.specs.FidText.{IsFid}
 use Rattle.fid_space.specs.Places.{is_client}
@@ -11,7 +11,7 @@ use Rattle.tree_model.specs.Tree.{Names, names_of, same_fid, root_fid, no_fid}
 use Rattle.tree_model.specs.Keys.{Layout, Laid, layout_at, plain_layout}
 use Rattle.object_store.specs.Bodies.{is_allowed, may_lay}
 use Rattle.tree_sound.specs.Sound.{IsSound, IsSoundNode, IsNodeFid, IsLaid}
-use Rattle.tree_sound.proofs.Basics.{which, no_self, same_self}
+use Rattle.tree_sound.proofs.Basics.{which, no_self}
 use Rattle.tree_sound.proofs.Keeping.{sound_node}
 use Rattle.tree_sound.proofs.Story.{there_named}
 use Rattle.tree_shares.specs.Shares.{kept, body_of, file_body, directory_body}

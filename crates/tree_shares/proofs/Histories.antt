@@ -1,5 +1,5 @@
 -- The shares of the next tree, and of histories.
-use Rattle.std.proofs.Common.{◌≡◌, ◌≤◌, ◌<◌, ℕ, suc, List, [], ◌∷◌, ◌++◌, length, refl, sym, ap, ◌∙◌, arith}
+use Rattle.std.proofs.Common.{◌≡◌, ℕ, suc, List, [], ◌∷◌, ◌++◌, length, refl, sym, ap, ◌∙◌}
 use Rattle.tree_model.specs.Keys.{Laid, laid_base}
 use Rattle.tree_model.specs.History.{Item}
 use Rattle.tree_model.specs.Kept.{laid_step, laid_from, laid_of}

@@ -1,27 +1,21 @@
 -- The law of shares, operation by operation.
-use Rattle.std.proofs.Common.{◌≡◌, ◌≤◌, ◌<◌, ◌+◌, ◌==◌, ◌||◌, nat_lt, if◌then◌else◌, ℕ, Bool, true, false, List, [], ◌∷◌, ◌++◌, Option, Some, None, inl, inr, refl, sym, ap, subst, ◌∙◌, arith}
-use Rattle.std.proofs.lemmas.Bool.Decides.{eqb_tells}
-use Rattle.std.specs.FinMap.{empty, get, len, get-empty, empty_of_len}
+use Rattle.std.proofs.Common.{◌≡◌, ◌≤◌, ◌<◌, ◌+◌, ◌||◌, nat_lt, if◌then◌else◌, ℕ, Bool, true, List, [], ◌∷◌, ◌++◌, Option, Some, None, refl, sym, ap, subst, ◌∙◌, arith}
+use Rattle.std.specs.FinMap.{get, len}
 use Rattle.fid_space.specs.declared.fid.Fid.{Fid}
 use Rattle.fid_space.specs.FidText.{IsFid}
 use Rattle.fid_space.specs.Places.{is_client}
 use Rattle.tree_model.specs.declared.node.Node.{Node}
 use Rattle.tree_model.specs.declared.errno.Errno.{Errno}
-use Rattle.tree_model.specs.declared.errno.Errno.TheVariants.{EINVAL, EFBIG, ENOTEMPTY}
+use Rattle.tree_model.specs.declared.errno.Errno.TheVariants.{EINVAL, EFBIG}
 use Rattle.tree_model.specs.declared.op.Op.{Op}
 use Rattle.tree_model.specs.declared.op.Op.TheVariants as ops
 use Rattle.tree_model.specs.OpText.{IsOp}
-use Rattle.tree_model.specs.Fids.{name_cmp}
-use Rattle.tree_model.specs.Tree.{Tree, Names, names_of, named, same_fid, root_fid, file_node}
+use Rattle.tree_model.specs.Tree.{Tree, names_of, named, same_fid, root_fid, file_node}
 use Rattle.tree_model.specs.Changes.{Change, PutNode, PutName, DropName}
-use Rattle.tree_model.specs.Step.{first_fault, parent_fault, taken_fault, client_fault, layout_fault, stripes_fault, link_fault, found_fault, kind_fault, empty_fault, there_fault, over_fault, loop_fault, moved_fault, setxattr_fault, xattr_fault, create_fault, is_dir, same_place, same_node, replaced, renamed, moved_node, changed_node, unlinked, op_fault, op_changes, op_reply}
+use Rattle.tree_model.specs.Step.{first_fault, parent_fault, taken_fault, client_fault, layout_fault, stripes_fault, link_fault, found_fault, there_fault, over_fault, loop_fault, moved_fault, create_fault, same_place, same_node, replaced, renamed, moved_node, changed_node, unlinked, op_fault, op_changes}
 use Rattle.tree_model.specs.Keys.{Laid, layout_at, plain_layout, laid_after}
-use Rattle.tree_model.specs.Looks.{decided, plan, changes}
-use Rattle.tree_model.specs.declared.reply.Reply.{Reply}
-use Rattle.tree_model.specs.declared.reply.Reply.TheVariants as replies
+use Rattle.tree_model.specs.Looks.{changes}
 use Rattle.tree_model.specs.Kept.{laid_step}
-use Rattle.tree_model.proofs.Fids.{fid_ties, told_same}
-use Rattle.tree_model.proofs.Deciding.{op_decides}
 use Rattle.out_update.specs.declared.update.Update.{Update}
 use Rattle.object_store.specs.Meaning.{after_all}
 use Rattle.tree_shares.specs.Shares.{share}
@@ -33,9 +27,8 @@ use Rattle.tree_shares.proofs.Finding.{found_object}
 use Rattle.tree_shares.proofs.Chains.{Goes}
 use Rattle.tree_shares.proofs.Ops.{Made, at_node, made_attr, made_xattr_set, made_xattr_del, made_create, made_mkdir, made_link, made_migrate}
 use Rattle.tree_shares.proofs.Moving.{made_unlink, made_rename}
-use Rattle.tree_sound.proofs.Basics.{neither, same, by_bool, not_both, some_none}
-use Rattle.tree_sound.proofs.Faults.{first_none, parent_none, taken_none, absent_none, passed, unmet, client_none, stripes_none, link_none, found_none, setxattr_there, xattr_there, not_old_at, chosen, decides}
-use Rattle.tree_sound.proofs.Steps.{IsNotOld}
+use Rattle.tree_sound.proofs.Basics.{neither, by_bool}
+use Rattle.tree_sound.proofs.Faults.{first_none, parent_none, taken_none, absent_none, unmet, client_none, stripes_none, link_none, found_none, setxattr_there, xattr_there, not_old_at, chosen, decides}
 
 -- a node that is there: what is changed of it is that node
 module _ (targets : ℕ) (l : Laid) (f : Fid) (us : List Update) (change : Node → Node) where

@@ -24,3 +24,4 @@ pub mod Sets
 pub mod Parting
 pub mod Seating
 pub mod Alike
+pub mod AllNames

@@ -5,7 +5,7 @@ use Rattle.fid_space.specs.declared.fid.Fid.{Fid}
 use Rattle.fid_space.specs.FidText.{IsFid}
 use Rattle.tree_model.specs.declared.node.Node.{Node}
 use Rattle.tree_model.specs.Tree.{Names, names_of, same_fid}
-use Rattle.tree_model.specs.Changes.{Change, PutNode, DropNode, PutName, DropName}
+use Rattle.tree_model.specs.Changes.{PutNode, DropNode, PutName, DropName}
 use Rattle.tree_model.specs.Step.{released, replaced, moved_node}
 use Rattle.tree_model.specs.Keys.{Layout, Laid, layout_at, plain_layout, laid_after, laid_after_all}
 use Rattle.out_update.specs.declared.update.Kind.TheVariants as kind
@@ -13,14 +13,14 @@ use Rattle.out_update.specs.Spelling.{fid_bytes}
 use Rattle.striped_dir.specs.Parts.{destroy_of}
 use Rattle.object_store.specs.Bodies.{is_allowed}
 use Rattle.tree_shares.specs.Shares.{body_of}
-use Rattle.tree_sound.specs.Sound.{IsSound, IsSoundAt}
+use Rattle.tree_sound.specs.Sound.{IsSound}
 use Rattle.tree_shares.specs.Updates.{update, inserted, deleted, destroyed_stripes, gone_node, gone, parent_updates}
-use Rattle.tree_shares.proofs.Owner.{Clients, client_facts}
+use Rattle.tree_shares.proofs.Owner.{Clients}
 use Rattle.tree_shares.proofs.Nodes.{effect_ref_del, effect_parent}
 use Rattle.tree_shares.proofs.Chains.{Goes, along}
 use Rattle.tree_shares.proofs.Going.{goes_node, goes_inserted, goes_deleted, goes_destroyed, goes_last}
 use Rattle.tree_shares.proofs.Ops.{at_node, has_node, clients}
-use Rattle.tree_sound.proofs.Basics.{same, by_bool}
+use Rattle.tree_sound.proofs.Basics.{by_bool}
 use Rattle.tree_sound.proofs.Steps.{Has, IsNotOld, laid_append, replaced_alike}
 
 -- what is needed of a node that loses a link

@@ -1,5 +1,5 @@
 -- The updates of each operation make the objects of the tree those of the next.
-use Rattle.std.proofs.Common.{◌≡◌, ◌≢◌, ◌≤◌, ◌<◌, ◌^◌, ◌+◌, ◌==◌, ◌&&◌, nat_le, if◌then◌else◌, ℕ, zero, suc, Bool, true, false, List, [], ◌∷◌, ◌++◌, Option, Some, None, refl, sym, ap, subst, ◌∙◌, arith}
+use Rattle.std.proofs.Common.{◌≡◌, ◌≢◌, ◌≤◌, ◌<◌, ◌^◌, ◌+◌, ◌==◌, ◌&&◌, nat_le, if◌then◌else◌, ℕ, zero, suc, Bool, true, false, List, [], ◌∷◌, ◌++◌, Some, None, refl, sym, ap, ◌∙◌, arith}
 use Rattle.std.proofs.lemmas.Bool.Decides.{nat_tests}
 use Rattle.std.specs.FinMap.{empty, get, insert, remove}
 use Rattle.fid_space.specs.declared.fid.Fid.{Fid}
@@ -7,7 +7,7 @@ use Rattle.fid_space.specs.FidText.{IsFid}
 use Rattle.fid_space.specs.Places.{is_client}
 use Rattle.tree_model.specs.declared.node.Node.{Node}
 use Rattle.tree_model.specs.declared.op.Op.TheVariants as ops
-use Rattle.tree_model.specs.Tree.{Names, names_of, same_fid, root_fid, directory_in, file_node}
+use Rattle.tree_model.specs.Tree.{names_of, same_fid, root_fid, directory_in, file_node}
 use Rattle.tree_model.specs.Changes.{Change, PutNode, PutName, NewLayout, NextLayout, MoveNames}
 use Rattle.tree_model.specs.Step.{is_dir}
 use Rattle.tree_model.specs.Keys.{Layout, Laid, layout_at, layout_with, plain_layout, laid_after, laid_after_all}

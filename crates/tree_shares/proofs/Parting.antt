@@ -1,5 +1,5 @@
 -- The parts of an operation, target by target.
-use Rattle.std.proofs.Common.{◌≡◌, ◌≢◌, ◌<◌, ◌≤◌, ◌^◌, ◌+◌, ◌*◌, ◌==◌, ◌||◌, ◌⊎◌, inl, inr, ⊎_elim, ℕ, zero, suc, Bool, true, false, true≢false, nat_lt, if◌then◌else◌, length, Option, Some, None, List, [], ◌∷◌, ◌++◌, refl, sym, ap, ◌∙◌, subst, arith, length-append}
+use Rattle.std.proofs.Common.{◌≡◌, ◌≢◌, ◌<◌, ◌≤◌, ◌+◌, ◌*◌, ◌==◌, ◌||◌, ◌⊎◌, inl, inr, ⊎_elim, ℕ, zero, suc, Bool, true, false, true≢false, nat_lt, if◌then◌else◌, length, Option, Some, None, List, [], ◌∷◌, refl, sym, ap, ◌∙◌, subst, arith, length-append}
 use Rattle.std.proofs.lemmas.Bool.Decides.{eqb_tells, nat_tests}
 use Rattle.std.specs.List.{AllByRecursion, flat_map}
 use Rattle.fid_space.specs.Places.{place_of}
@@ -10,9 +10,9 @@ use Rattle.tree_model.specs.declared.op.Op.{Op}
 use Rattle.tree_model.specs.Keys.{Laid}
 use Rattle.tree_model.specs.Striped.{on}
 use Rattle.out_update.specs.declared.update.Update.{Update}
-use Rattle.out_update.specs.Spelling.{FitsUpdateOf, update_text, updates_text, request_text}
+use Rattle.out_update.specs.Spelling.{FitsUpdateOf, update_text, updates_text}
 use Rattle.update_record.specs.declared.operation.Record.{Record}
-use Rattle.update_record.specs.Spelling.{FitsPart, FitsParts, has_target, part_for, targets_from, part_text, parts_text, front_text, middle_text, record_text}
+use Rattle.update_record.specs.Spelling.{FitsParts, has_target, part_for, targets_from, part_text, parts_text, record_text}
 use Rattle.tree_sound.proofs.Basics.{by_bool, which}
 use Rattle.tree_shares.specs.Updates.{updates, placed_one, placed, placed_updates, updates_at}
 use Rattle.tree_shares.specs.Parts.{parts_from, parts}

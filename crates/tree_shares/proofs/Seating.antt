@@ -6,10 +6,8 @@ use Rattle.std.specs.Cmp.{unsigned_tied}
 use Rattle.std.specs.FinMap.{get, empty, insert, get-insert, get-empty}
 use Rattle.std.proofs.lemmas.Cmp.{nat_cmp_total}
 use Rattle.std.proofs.lemmas.Bool.Decides.{eqb_tells}
-use Rattle.tree_model.specs.declared.op.Request.{Request}
 use Rattle.tree_model.specs.declared.reply.Reply.{Reply}
 use Rattle.tree_model.specs.History.{Item}
-use Rattle.tree_model.specs.Kept.{laid_of}
 use Rattle.tree_model.specs.Participants.{home_of}
 use Rattle.tree_sound.proofs.Basics.{which}
 use Rattle.tree_shares.specs.Shares.{is_at}

@@ -1,19 +1,18 @@
 -- The set of targets that an operation is on.
-use Rattle.std.proofs.Common.{◌≡◌, ◌≢◌, ◌<◌, ◌≤◌, ◌+◌, ◌-◌, ◌*◌, ◌/◌, ◌%◌, ◌==◌, inl, inr, ⊎_elim, ℕ, zero, suc, Bool, true, false, true≢false, if◌then◌else◌, Option, Some, None, List, [], ◌∷◌, refl, sym, ap, ◌∙◌, subst, arith}
+use Rattle.std.proofs.Common.{◌≡◌, ◌≢◌, ◌<◌, ◌≤◌, ◌+◌, ◌-◌, ◌*◌, ◌/◌, ◌%◌, ◌==◌, inl, inr, ⊎_elim, ℕ, zero, suc, Bool, true, false, true≢false, if◌then◌else◌, Option, Some, None, List, [], ◌∷◌, refl, sym, ◌∙◌, subst, arith}
 use Rattle.std.proofs.lemmas.Bool.Decides.{eqb_tells, nat_tests}
 use Rattle.std.proofs.Math.Nat.{mod-lt}
 use Rattle.fid_space.specs.declared.fid.Fid.{Fid}
 use Rattle.fid_space.specs.Places.{place_of, in_range, base_of}
 use Rattle.fid_space.specs.Targets.{is_member, joined}
 use Rattle.fid_space.proofs.Members.{member_none, member_joined}
-use Rattle.tree_model.specs.declared.node.Node.{Node}
 use Rattle.tree_model.specs.declared.op.Op.{Op}
 use Rattle.tree_model.specs.Changes.{Change, PutNode, DropNode, PutName, DropName, NewLayout, NextLayout, MoveNames}
 use Rattle.tree_model.specs.Keys.{Layout, Laid, layout_at, layout_with}
 use Rattle.tree_model.specs.Looks.{changes}
 use Rattle.tree_model.specs.Participants.{home_of, first_fid, with_place}
 use Rattle.tree_model.specs.Striped.{fnv1a_64, stripe_target, entry_place, with_stripes, with_change, with_changes, on}
-use Rattle.tree_sound.proofs.Basics.{In, which, some_is, none_is}
+use Rattle.tree_sound.proofs.Basics.{In, some_is, none_is}
 
 -- ---- a set keeps its members
 

@@ -20,7 +20,7 @@ use Rattle.tree_model.specs.Names.{IsName}
 use Rattle.tree_model.specs.Tree.{Tree, Names, names_of, named, same_fid, root_fid, directory_in, file_node}
 use Rattle.tree_model.specs.Changes.{Change}
 use Rattle.tree_model.specs.Step.{first_fault, parent_fault, taken_fault, link_fault, found_fault, moved_fault, client_fault, layout_fault, stripes_fault, op_fault}
-use Rattle.tree_model.specs.Keys.{Layout, Laid, layout_at, layout_with, plain_layout}
+use Rattle.tree_model.specs.Keys.{Layout, Laid, layout_at, layout_with}
 use Rattle.tree_model.specs.Looks.{changes}
 use Rattle.tree_model.specs.Striped.{stripe_target}
 use Rattle.tree_model.proofs.Maps.{names_total}
@@ -36,17 +36,14 @@ use Rattle.out_update.specs.Bodies.{width_of, may_be, kind_after, count_after, A
 use Rattle.out_update.specs.Spelling.{fid_bytes, FitsParams, FitsUpdateOf}
 use Rattle.striped_dir.specs.Layouts.{layout_text}
 use Rattle.striped_dir.specs.Parts.{part_of_name, stripe_body, create_of, destroy_of}
-use Rattle.object_store.specs.Bodies.{body_bytes, is_allowed, may_lay}
-use Rattle.tree_shares.specs.Shares.{kept, file_body, directory_body, stripe_fid_of}
+use Rattle.object_store.specs.Bodies.{body_bytes}
+use Rattle.tree_shares.specs.Shares.{file_body, directory_body, stripe_fid_of}
 use Rattle.tree_sound.specs.Sound.{IsSound}
 use Rattle.tree_shares.specs.Updates.{update, entry_object, inserted, deleted, created_node, created_stripes, destroyed_stripes, gone_node, gone, attributes_bytes, parent_updates, rename_updates, moved_entry, op_updates, unless_none, updates}
 use Rattle.tree_shares.specs.ShareLaws.{UpdatesAreSpelled}
 use Rattle.tree_shares.proofs.Owner.{Clients, client_facts}
 use Rattle.tree_shares.proofs.Finding.{entries_got}
 use Rattle.tree_shares.proofs.Here.{AreLow, low_range, part_below}
-use Rattle.tree_shares.proofs.Nodes.{as_directory}
-use Rattle.tree_shares.proofs.Ops.{directory_has}
-use Rattle.tree_sound.proofs.Basics.{by_bool}
 use Rattle.tree_sound.proofs.Faults.{first_none, parent_none, unmet, client_none, stripes_none, found_none, decides}
 use Rattle.tree_shares.proofs.Facts.{facts}
 

@@ -9,7 +9,7 @@ use Rattle.tree_model.specs.declared.node.Node.{Node}
 use Rattle.tree_model.specs.declared.errno.Errno.{Errno}
 use Rattle.tree_model.specs.declared.op.Op.{Op}
 use Rattle.tree_model.specs.declared.op.Op.TheVariants as ops
-use Rattle.tree_model.specs.Tree.{Tree, Names, names_of, named, same_fid, directory_in}
+use Rattle.tree_model.specs.Tree.{Tree, names_of, named, same_fid, directory_in}
 use Rattle.tree_model.specs.Changes.{Change, PutNode, DropNode, PutName, DropName, NewLayout, NextLayout, MoveNames}
 use Rattle.tree_model.specs.Step.{first_fault, parent_fault, taken_fault, link_fault, found_fault, moved_fault, same_place, same_node, released, replaced, renamed, moved_node, changed_node, unlinked, op_fault, op_changes}
 use Rattle.tree_model.specs.Keys.{Layout, Laid, layout_at, layout_with, plain_layout}

@@ -1,5 +1,5 @@
 -- What is so of the parts of an operation.
-use Rattle.std.specs.Prelude.{◌≡◌, ◌<◌, ◌≤◌, ◌^◌, ℕ, true, length, List, Some, None, if◌then◌else◌}
+use Rattle.std.specs.Prelude.{◌≡◌, ◌<◌, ◌≤◌, ◌^◌, ℕ, true, length, Some, None, if◌then◌else◌}
 use Rattle.fid_space.specs.Targets.{is_member}
 use Rattle.tree_model.specs.declared.op.Op.{Op}
 use Rattle.tree_model.specs.OpText.{IsOp}

@@ -1,7 +1,8 @@
 -- What shares tell of a tree.
-use Rattle.std.specs.Prelude.{◌≡◌, ◌≢◌, ◌≤◌, ◌<◌, ℕ, true, List, Some}
+use Rattle.std.specs.Prelude.{◌≡◌, ◌≢◌, ◌≤◌, ◌<◌, ◌+◌, ℕ, zero, suc, true, false, nat_lt, List, length, take, Some}
+use Rattle.std.specs.List.{range_with_len, flat_map}
 use Rattle.std.specs.Option.{option_map}
-use Rattle.std.specs.FinMap.{get, len, empty}
+use Rattle.std.specs.FinMap.{get, len, empty, entries, from_entries}
 use Rattle.fid_space.specs.declared.fid.Fid.{Fid}
 use Rattle.fid_space.specs.Places.{place_of}
 use Rattle.tree_model.specs.declared.node.Node.{Node}
@@ -37,3 +38,22 @@ abbrev pub EmptyIsTold : Type 0
 EmptyIsTold =
     (l : Layout) (names : Names) → l.count ≢ 0
     → (((i : ℕ) → i < l.count → len (names_in l i names) ≡ 0) → names ≡ empty) × (names ≡ empty → (i : ℕ) → len (names_in l i names) ≡ 0)
+
+-- how many entries so many parts have, from one on
+abbrev pub count_from : Layout → Names → ℕ → ℕ → ℕ
+count_from l names index zero = 0
+count_from l names index (suc n) = len (names_in l index names) + count_from l names (index + 1) n
+
+-- a striped directory has as many entries as its parts together
+abbrev pub CountsAreTold : Type 0
+CountsAreTold = (l : Layout) (names : Names) → l.count ≢ 0 → len names ≡ count_from l names 0 l.count
+
+-- what all parts tell of the entries: the first 33 of each
+abbrev pub told_names : Layout → Names → List (List ℕ × Fid)
+told_names l names = flat_map (λ index. take 33 (entries (names_in l index names))) (range_with_len 0 l.count)
+
+-- That says whether there are more than 32; and if not, it is all entries, which their map gives by their names.
+abbrev pub AllNamesAreTold : Type 0
+AllNamesAreTold =
+    (l : Layout) (names : Names) → l.count ≢ 0
+    → (nat_lt 32 (length (told_names l names)) ≡ nat_lt 32 (len names)) × (nat_lt 32 (len names) ≡ false → from_entries (told_names l names) ≡ names)

@@ -4,7 +4,7 @@
 
 ghost use Rattle.tree_shares.specs.ShareLaws.{PartsMakeShares, SharesOfHistories, SeatsGoAlong, SeatsAreLast, UpdatesNameWhatIsWritten, UpdatesAreSpelled, UpdatesAreFew, OthersStay};
 ghost use Rattle.tree_shares.specs.PartLaws.{PartsAreOfTargets, PartsAreOn, HomeTakesPart, PartsFollowLooks, PartsFit, RecordsAreShort};
-ghost use Rattle.tree_shares.specs.Telling.{NodesAreTold, NamesAreTold, StripesAreTold, EmptyIsTold};
+ghost use Rattle.tree_shares.specs.Telling.{NodesAreTold, NamesAreTold, StripesAreTold, EmptyIsTold, CountsAreTold, AllNamesAreTold};
 
 /// The part of each target makes its share that after the operation; a target without a part keeps its share.
 /// The call does nothing: its contract is a law, as that of each call below.
@@ -64,4 +64,6 @@ pub fn shares_tell()
     ensures names { NamesAreTold }
     ensures stripes { StripesAreTold }
     ensures bare { EmptyIsTold }
+    ensures counts { CountsAreTold }
+    ensures all { AllNamesAreTold }
 {}

@@ -1,5 +1,5 @@
 -- What is looked at has a place.
-use Rattle.std.proofs.Common.{◌≡◌, ◌≤◌, ◌&&◌, inl, ⊎_elim, is_some, ℕ, zero, suc, Bool, true, false, true≢false, not, nat_lt, length, if◌then◌else◌, Option, Some, None, List, [], ◌∷◌, refl, sym, ap, ◌∙◌, subst, arith}
+use Rattle.std.proofs.Common.{◌≡◌, ◌≤◌, ◌&&◌, ⊎_elim, is_some, ℕ, zero, suc, Bool, true, false, not, nat_lt, if◌then◌else◌, Option, Some, None, List, [], refl, sym, subst, true≢false}
 use Rattle.std.specs.List.{AllByRecursion}
 use Rattle.std.specs.FinMap.{get, len}
 use Rattle.fid_space.specs.declared.fid.Fid.{Fid}
@@ -23,7 +23,7 @@ use Rattle.op_laws.proofs.Lists.{or_first}
 use Rattle.op_laws.proofs.Names.{node_placed}
 use Rattle.op_laws.proofs.Stripes.{part_is, of_stripe}
 use Rattle.op_laws.proofs.Places.{striped, stripe_there}
-use Rattle.tree_sound.proofs.Basics.{In, which, same_is, ok_true, dir_of, dir_some}
+use Rattle.tree_sound.proofs.Basics.{In, ok_true, dir_of, dir_some}
 
 module _ (targets : ℕ) (l : Laid) (sound : Ground targets l) where
   abbrev N : Fid → List ℕ → Option Fid

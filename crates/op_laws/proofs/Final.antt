@@ -1,5 +1,5 @@
 -- The laws.
-use Rattle.std.proofs.Common.{inl, inr, ⊎_elim, true≢false, List, [], ◌∷◌, sym, ◌∙◌}
+use Rattle.std.proofs.Common.{inl, inr, ⊎_elim, List, [], ◌∷◌, sym, ◌∙◌, true≢false}
 use Rattle.tree_model.specs.Keys.{Key, Laid, layout_at}
 use Rattle.tree_model.specs.Looks.{looks, changes}
 use Rattle.tree_model.specs.Participants.{home_of, with_place}

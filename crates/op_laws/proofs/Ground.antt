@@ -1,5 +1,5 @@
 -- What the laws of objects need of a sound tree.
-use Rattle.std.proofs.Common.{◌≡◌, ◌≢◌, ◌≤◌, ⊎_elim, is_some, ℕ, true, false, true≢false, List, Option, Some, None, refl, sym, ap, ◌∙◌, subst}
+use Rattle.std.proofs.Common.{◌≡◌, ◌≢◌, ◌≤◌, ⊎_elim, is_some, ℕ, true, false, List, Option, Some, None, refl, sym, ap, ◌∙◌, subst, true≢false}
 use Rattle.std.specs.FinMap.{get}
 use Rattle.fid_space.specs.declared.fid.Fid.{Fid}
 use Rattle.fid_space.specs.Places.{is_client}
@@ -8,7 +8,7 @@ use Rattle.tree_model.specs.Tree.{named, root_fid}
 use Rattle.tree_model.specs.Keys.{Laid, layout_at, plain_layout}
 use Rattle.tree_model.specs.Step.{is_dir}
 use Rattle.tree_sound.specs.Sound.{IsSound, IsNodeFid}
-use Rattle.tree_sound.proofs.Basics.{at_fid, node_of}
+use Rattle.tree_sound.proofs.Basics.{at_fid}
 use Rattle.tree_sound.proofs.Keeping.{sound_node, sound_none}
 use Rattle.tree_sound.proofs.Story.{there_named, in_directory, once_named}
 

@@ -1,7 +1,6 @@
 -- Parts, shares and written objects: each update is in the part of its place.
-use Rattle.std.proofs.Common.{◌≡◌, ◌+◌, ◌==◌, inl, inr, ⊎_elim, ℕ, zero, suc, Bool, true, false, true≢false, if◌then◌else◌, map, Option, Some, None, List, [], ◌∷◌, ◌++◌, refl, sym, ap, ◌∙◌, subst, arith}
+use Rattle.std.proofs.Common.{◌≡◌, ◌+◌, ◌==◌, inl, inr, ⊎_elim, ℕ, zero, suc, Bool, true, false, if◌then◌else◌, map, Option, Some, None, List, [], ◌∷◌, ◌++◌, refl, sym, ap, ◌∙◌, subst, true≢false}
 use Rattle.std.proofs.lemmas.Bool.{eq-eqb}
-use Rattle.std.specs.List.{AllByRecursion, flat_map}
 use Rattle.std.specs.Option.{unwrap_or}
 use Rattle.fid_space.specs.declared.fid.Fid.{Fid}
 use Rattle.fid_space.specs.Places.{place_of}
@@ -13,7 +12,6 @@ use Rattle.tree_model.specs.Striped.{on}
 use Rattle.out_update.specs.declared.update.Update.{Update}
 use Rattle.object_store.specs.Meaning.{after_all}
 use Rattle.update_record.specs.Spelling.{has_target, part_for}
-use Rattle.tree_sound.specs.Sound.{IsSound}
 use Rattle.tree_sound.proofs.Basics.{In, in_either, which}
 use Rattle.tree_shares.specs.Shares.{share}
 use Rattle.tree_shares.specs.Updates.{updates, placed_one, placed, placed_updates, updates_at}
@@ -23,7 +21,6 @@ use Rattle.tree_shares.proofs.Written.{updates_name_what_is_written}
 use Rattle.tree_shares.proofs.Others.{others_stay}
 use Rattle.tree_shares.proofs.Parting.{parts_of_targets}
 use Rattle.op_laws.specs.Objects.{is_among, wrote}
-use Rattle.op_laws.specs.Laws.{IsCount}
 use Rattle.op_laws.specs.PartTies.{EachUpdateHasItsPart, PartsNameWhatIsWritten, WrittenHere, PartsMakeShares}
 use Rattle.op_laws.proofs.Lists.{in_of, of_in, not_in, all_of}
 use Rattle.op_laws.proofs.Final.{wrote_on}

@@ -1,11 +1,10 @@
--- The owners of objects have keys; and generations rise by one.
-use Rattle.std.proofs.Common.{◌≡◌, ◌≤◌, inl, inr, ⊎_elim, ℕ, zero, suc, true, false, if◌then◌else◌, Bool, Option, Some, None, List, [], ◌∷◌, ◌++◌, refl, sym, ap, ◌∙◌, subst, arith}
-use Rattle.std.specs.Option.{unwrap_or}
+-- The owners of objects have keys that are written or looked at.
+use Rattle.std.proofs.Common.{◌≡◌, ◌≤◌, inl, inr, ⊎_elim, ℕ, true, false, if◌then◌else◌, Bool, List, [], ◌∷◌, ◌++◌, refl, sym, subst}
 use Rattle.std.specs.FinMap.{get}
 use Rattle.fid_space.specs.declared.fid.Fid.{Fid}
 use Rattle.fid_space.specs.Places.{is_client, is_stripe}
 use Rattle.tree_model.specs.Changes.{Change, PutNode, DropNode, PutName, DropName, NewLayout, NextLayout, MoveNames}
-use Rattle.tree_model.specs.Keys.{Key, NodeKey, NameKey, AllKey, Layout, Laid, plain_layout, layout_at, layout_with, laid_after_all, keys_of, keys_of_all}
+use Rattle.tree_model.specs.Keys.{Key, NodeKey, NameKey, AllKey, Layout, Laid, layout_at, layout_with, keys_of, keys_of_all}
 use Rattle.tree_model.specs.Laws.{Among}
 use Rattle.op_laws.specs.Objects.{stripes_of, parts_of, part_named, owner, stands, written_by}
 use Rattle.tree_sound.specs.Sound.{IsNodeFid}
@@ -15,7 +14,7 @@ use Rattle.op_laws.specs.Laws.{IsAsked}
 use Rattle.op_laws.proofs.Lists.{each_in}
 use Rattle.op_laws.proofs.Names.{no_stripe, own_owner}
 use Rattle.op_laws.proofs.Stripes.{name_has_part, part_is, of_stripe}
-use Rattle.op_laws.proofs.Facts.{Licensed, Lays, Same, Gone, New, Next, Good, next_of}
+use Rattle.op_laws.proofs.Facts.{Licensed, Good, next_of}
 use Rattle.op_laws.proofs.Places.{only, striped}
 use Rattle.tree_sound.proofs.Basics.{In, in_either, dir_some}
 

@@ -1,5 +1,5 @@
 -- The parts of a directory.
-use Rattle.std.proofs.Common.{◌≡◌, ◌≢◌, ◌<◌, ◌≤◌, ◌+◌, ◌%◌, ◌⊎◌, inl, inr, ⊎_elim, ℕ, zero, suc, true, List, Some, refl, sym, ap, ◌∙◌, arith}
+use Rattle.std.proofs.Common.{◌≡◌, ◌≢◌, ◌<◌, ◌≤◌, ◌+◌, ◌%◌, ◌⊎◌, inl, inr, ⊎_elim, ℕ, zero, suc, true, List, Some, refl, sym, ap, subst, ◌∙◌, arith}
 use Rattle.std.proofs.lemmas.Bool.Decides.{eqb_tells}
 use Rattle.std.proofs.Math.Nat.{mod-lt, zero-lt-suc}
 use Rattle.fid_space.specs.declared.fid.Fid.{Fid}
@@ -7,6 +7,7 @@ use Rattle.fid_space.specs.Places.{place_of, is_client, is_stripe, stripe_of}
 use Rattle.tree_model.specs.Keys.{Layout}
 use Rattle.tree_model.specs.Striped.{fnv1a_64, stripe_target}
 use Rattle.striped_dir.specs.Parts.{stripe_at}
+use Rattle.tree_shares.proofs.Written.{part_striped}
 use Rattle.op_laws.specs.Objects.{stripes_below, stripes_of, parts_of, part_named, owner}
 use Rattle.op_laws.proofs.Names.{is_one, stripe_placed, stripe_owner}
 use Rattle.tree_sound.proofs.Basics.{In}
@@ -29,7 +30,9 @@ module _ (targets : ℕ) (d : Fid) where
 
   pub name_has_part : (c s g : ℕ) (name : List ℕ) → In (parts_of targets d (record { count = c; start = s; generation = g })) (part_named targets d (record { count = c; start = s; generation = g }) name)
   name_has_part zero s g name = inl refl
-  name_has_part (suc c) s g name = at_below (record { count = suc c; start = s; generation = g }) (suc c) (fnv1a_64 name % suc c) (mod-lt (fnv1a_64 name) (zero-lt-suc c))
+  name_has_part (suc c) s g name =
+      let lay : Layout = record { count = suc c; start = s; generation = g } in
+      subst (λ x. In (stripes_below targets d lay (suc c)) x) (sym (part_striped targets d c s g name)) (at_below lay (suc c) (fnv1a_64 name % suc c) (mod-lt (fnv1a_64 name) (zero-lt-suc c)))
 
   pub some_part : (c s g : ℕ) → (x : Fid) × In (parts_of targets d (record { count = c; start = s; generation = g })) x
   some_part zero s g = (d, inl refl)

@@ -1,18 +1,16 @@
 -- Each written object has a place, which takes part.
-use Rattle.std.proofs.Common.{◌≡◌, ◌≢◌, ◌<◌, ◌≤◌, ◌+◌, ◌%◌, inl, inr, ⊎_elim, ℕ, zero, suc, true, Option, Some, None, List, [], ◌∷◌, refl, sym, ap, ◌∙◌, subst, arith}
-use Rattle.std.proofs.lemmas.Bool.Decides.{eqb_tells}
+use Rattle.std.proofs.Common.{◌≡◌, ◌≢◌, ◌<◌, ◌≤◌, ◌+◌, ◌%◌, inr, ⊎_elim, ℕ, zero, suc, true, Some, List, refl, sym, ap, ◌∙◌, subst, arith}
 use Rattle.std.proofs.Math.Nat.{mod-lt}
-use Rattle.std.specs.Option.{unwrap_or}
-use Rattle.std.specs.FinMap.{get}
 use Rattle.fid_space.specs.declared.fid.Fid.{Fid}
 use Rattle.fid_space.specs.Places.{place_of, is_client}
-use Rattle.fid_space.specs.Targets.{is_member, joined}
-use Rattle.tree_shares.proofs.Sets.{place_has, stripes_keep, stripes_have, changes_keep, changes_have}
+use Rattle.fid_space.specs.Targets.{is_member}
+use Rattle.tree_shares.proofs.Sets.{place_has, stripes_keep, stripes_have, changes_have}
 use Rattle.tree_model.specs.declared.node.Node.{Node}
 use Rattle.tree_model.specs.Changes.{Change, PutNode, DropNode, PutName, DropName, NewLayout, NextLayout, MoveNames}
-use Rattle.tree_model.specs.Keys.{Key, Layout, Laid, plain_layout, layout_at, layout_with}
+use Rattle.tree_model.specs.Keys.{Key, Layout, Laid, layout_at, layout_with}
 use Rattle.tree_model.specs.Participants.{with_place}
 use Rattle.tree_model.specs.Striped.{fnv1a_64, stripe_target, entry_place, with_stripes, with_change, with_changes}
+use Rattle.tree_shares.proofs.Written.{part_striped}
 use Rattle.op_laws.specs.Objects.{stripes_of, part_named, written_by}
 use Rattle.tree_sound.specs.Sound.{IsNodeFid}
 use Rattle.op_laws.proofs.Ground.{Ground}
@@ -48,7 +46,7 @@ module _ (targets : ℕ) (l : Laid) where
     entry_at d (suc c) s g n h k =
         let i = fnv1a_64 n % suc c in
         let t = (s + i) % targets in
-        (t, stripe_placed targets d t i g few (mod-lt (s + i) (let one = some in omega (arith, one))) (k (λ (e : suc c ≡ 0). absurd (omega (arith, e)))), refl)
+        (t, ap (λ f. place_of targets f) (part_striped targets d c s g n) ∙ stripe_placed targets d t i g few (mod-lt (s + i) (let one = some in omega (arith, one))) (k (λ (e : suc c ≡ 0). absurd (omega (arith, e)))), refl)
 
     name_takes : (c : Change) (d : Fid) (n : List ℕ) (x : Fid) → In cs c → IsNodeFid targets d → part_named targets d (layout_at l d) n ≡ x
         → ((r t : ℕ) → entry_place targets d (layout_at l d) n ≡ Some t → is_member (with_change targets l r c) t ≡ true) → Takes x

@@ -1,5 +1,5 @@
 -- Each operation's changes are licensed by what it looks at.
-use Rattle.std.proofs.Common.{◌≡◌, ◌<◌, ◌≤◌, ◌||◌, ◌&&◌, ◌+◌, ◌-◌, ◌⊎◌, inl, inr, ⊎_elim, is_some, ℕ, zero, suc, Bool, true, false, true≢false, not, nat_le, nat_lt, if◌then◌else◌, Option, Some, None, List, [], ◌∷◌, ◌++◌, refl, sym, ap, ◌∙◌, subst, arith}
+use Rattle.std.proofs.Common.{◌≡◌, ◌<◌, ◌≤◌, ◌||◌, ◌&&◌, ◌+◌, ◌-◌, ◌⊎◌, inl, inr, ⊎_elim, is_some, ℕ, zero, suc, Bool, true, false, not, nat_le, nat_lt, if◌then◌else◌, Option, Some, None, List, [], ◌∷◌, ◌++◌, refl, sym, ap, ◌∙◌, subst, arith, true≢false}
 use Rattle.std.proofs.lemmas.Bool.Decides.{nat_tests}
 use Rattle.std.specs.List.{AllByRecursion}
 use Rattle.std.specs.FinMap.{get, insert, remove, len}
@@ -11,7 +11,7 @@ use Rattle.tree_model.specs.declared.op.Op.TheVariants as ops
 use Rattle.tree_model.specs.declared.reply.Reply.{Reply}
 use Rattle.tree_model.specs.declared.reply.Reply.TheVariants as replies
 use Rattle.tree_model.specs.declared.errno.Errno.{Errno}
-use Rattle.tree_model.specs.declared.errno.Errno.TheVariants.{EINVAL, EFBIG, ENOTDIR}
+use Rattle.tree_model.specs.declared.errno.Errno.TheVariants.{EINVAL, EFBIG}
 use Rattle.tree_model.specs.Tree.{Names, names_of, named, same_fid, root_fid, directory_in, file_node}
 use Rattle.tree_model.specs.Changes.{Change, PutNode, DropNode, PutName, DropName, NewLayout, NextLayout, MoveNames}
 use Rattle.tree_model.specs.Keys.{Key, NodeKey, NameKey, AllKey, Layout, Laid, plain_layout, layout_at, layout_with}

@@ -7,7 +7,8 @@ use Rattle.fid_space.specs.Places.{base_of, offset_of, is_stripe}
 use Rattle.tree_model.specs.declared.op.Op.{Op}
 use Rattle.tree_model.specs.Keys.{Key, NodeKey, NameKey, AllKey, Layout, Laid, layout_at}
 use Rattle.tree_model.specs.Looks.{looks}
-pub use Rattle.tree_shares.specs.Wrote.{is_among, stripes_below, stripes_of, part_named, written_by, wrote}
+pub use Rattle.tree_shares.specs.Updates.{part_named}
+pub use Rattle.tree_shares.specs.Wrote.{is_among, stripes_below, stripes_of, written_by, wrote}
 
 -- ---- the objects of a directory
 

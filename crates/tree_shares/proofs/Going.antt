@@ -16,7 +16,7 @@ use Rattle.striped_dir.specs.Layouts.{FitsLayout}
 use Rattle.striped_dir.specs.Parts.{part_of_name, create_of, destroy_of}
 use Rattle.object_store.specs.Bodies.{is_allowed}
 use Rattle.tree_shares.specs.Shares.{body_of, directory_body, node_object, stripe_fid_of}
-use Rattle.tree_shares.specs.Updates.{update, entry_object, inserted, deleted, created_node, created_stripes, destroyed_stripes, moved_entry, migrate_updates}
+use Rattle.tree_shares.specs.Updates.{update, part_named, inserted, deleted, created_node, created_stripes, destroyed_stripes, moved_entry, migrate_updates}
 use Rattle.tree_shares.proofs.Effects.{effect}
 use Rattle.tree_shares.proofs.Owner.{owner, owner_of_node, owner_of_stripe, Clients}
 use Rattle.tree_shares.proofs.Here.{here_node, here_created, here_destroyed, here_inserted, here_deleted}
@@ -49,7 +49,7 @@ module _ (targets batch : ℕ) (d : Fid) (l : Layout) where
   destroyed_at_count zero c = tt
   destroyed_at_count (suc n) c = destroys_of (c (λ (e : suc n ≡ 0). absurd (omega (arith, e)))) (range_with_len 0 (suc n))
 
-  pub owner_of_entry : (x : List ℕ) → d.ver ≡ 0 → (l.count ≢ 0 → Clients d) → owner (entry_object targets d l x) ≡ d
+  pub owner_of_entry : (x : List ℕ) → d.ver ≡ 0 → (l.count ≢ 0 → Clients d) → owner (part_named targets d l x) ≡ d
   owner_of_entry x v c =
       elim (eqb_tells l.count 0) [
         | inl h ↦ ap (λ b. owner (cond b d (stripe_fid_of targets d l (part_of_name l x)))) h.0 ∙ owner_of_node d v

@@ -24,7 +24,7 @@ use Rattle.object_store.specs.Bodies.{is_allowed, body_bytes, body_at}
 use Rattle.object_store.specs.Objects.{Object, fresh}
 use Rattle.object_store.specs.Meaning.{with_entry}
 use Rattle.tree_shares.specs.Shares.{body_of, names_in, node_object, stripe_object, stripe_fid_of, stripe_of_directory}
-use Rattle.tree_shares.specs.Updates.{update, entry_object, inserted, deleted, created_node, created_stripes, destroyed_stripes}
+use Rattle.tree_shares.specs.Updates.{update, part_named, inserted, deleted, created_node, created_stripes, destroyed_stripes}
 use Rattle.tree_shares.proofs.Effects.{created_at, effect, touched, effects, effects-append}
 use Rattle.tree_shares.proofs.Owner.{index_in}
 use Rattle.tree_shares.proofs.Finding.{one_of, among, stripe_in, object_in, one_of_index}
@@ -257,7 +257,7 @@ module _ (targets : ℕ) (k : Kind) (batch : ℕ) (d : Fid) (x : List ℕ) (ps :
       ap left s ∙ ap (λ b. cond b (E (N empty)) (N empty)) apart ∙ sym (ap right s))
       (λ s. ap left s ∙ stripes some_count ∙ sym (ap right s))
 
-  pub here_entry : effects (update k batch (entry_object targets d l x) ps ∷ []) q (object_in targets q d (Some n) l names) ≡ object_in targets q d (Some n) l (g names)
+  pub here_entry : effects (update k batch (part_named targets d l x) ps ∷ []) q (object_in targets q d (Some n) l names) ≡ object_in targets q d (Some n) l (g names)
   here_entry =
       let left : Bool → Option Object = λ b. cond (same q (cond b d (stripe_fid_of targets d l (part_of_name l x)))) (E (cond (same q d) (N (cond b names empty)) (S names))) (cond (same q d) (N (cond b names empty)) (S names)) in
       let right : Bool → Option Object = λ b. cond (same q d) (N (cond b (g names) empty)) (S (g names)) in

@@ -20,7 +20,7 @@ use Rattle.object_store.specs.Bodies.{is_allowed}
 use Rattle.object_store.specs.Objects.{Object, fresh}
 use Rattle.object_store.specs.Meaning.{with_entry}
 use Rattle.tree_shares.specs.Shares.{directory_body, body_of, names_in, own_names, node_object, stripe_object, stripe_fid_of, stripe_of_directory}
-use Rattle.tree_shares.specs.Updates.{update, entry_object, inserted, deleted, created_stripes, destroyed_stripes, moved_entry, migrate_updates}
+use Rattle.tree_shares.specs.Updates.{update, part_named, inserted, deleted, created_stripes, destroyed_stripes, moved_entry, migrate_updates}
 use Rattle.tree_shares.proofs.Effects.{effect, touched, effects, effects-append}
 use Rattle.tree_shares.proofs.Owner.{index_in}
 use Rattle.tree_shares.proofs.Finding.{entries_got, one_of, among, stripe_in, object_in, one_of_index}
@@ -97,7 +97,7 @@ fits_all names (e ∷ es) h all = (h e.0 e.1 all.0, fits_all names es h all.1)
 
 module _ (targets batch : ℕ) (d : Fid) (old new : Layout) (q : Fid) where
   abbrev hits : List ℕ → Bool
-  hits x = same q (entry_object targets d new x)
+  hits x = same q (part_named targets d new x)
 
   abbrev drops : Bool
   drops = (old.count == 0) && same q d
@@ -193,7 +193,7 @@ module _ (targets batch : ℕ) (d q : Fid) (n : Node) (old new : Layout) (names 
   moves = if A && B then [] else flat_map (moved_entry targets batch d old new) (entries names)
 
   abbrev hit : List ℕ → Bool
-  hit y = same q (entry_object targets d new y)
+  hit y = same q (part_named targets d new y)
 
   abbrev drop : Bool
   drop = A && same q d
@@ -214,7 +214,7 @@ module _ (targets batch : ℕ) (d q : Fid) (n : Node) (old new : Layout) (names 
   one_none : (e : List ℕ × Fid) → effects (moved_entry targets batch d old new e) q None ≡ None
   one_none e =
       let left : Bool → Option Object = λ b. effects (if b then deleted targets batch d old e.0 ∷ inserted targets batch d new e.0 e.1 ∷ [] else inserted targets batch d new e.0 e.1 ∷ []) q None in
-      by_bool A (λ s. ap left s ∙ two (same q (entry_object targets d old e.0)) (hit e.0)) (λ s. ap left s ∙ one (hit e.0))
+      by_bool A (λ s. ap left s ∙ two (same q (part_named targets d old e.0)) (hit e.0)) (λ s. ap left s ∙ one (hit e.0))
     where
       one : (b : Bool) → ◌≡◌ {A = Option Object} (cond b None None) None
       one true = refl

@@ -39,7 +39,7 @@ use Rattle.striped_dir.specs.Parts.{part_of_name, stripe_body, create_of, destro
 use Rattle.object_store.specs.Bodies.{body_bytes}
 use Rattle.tree_shares.specs.Shares.{file_body, directory_body, stripe_fid_of}
 use Rattle.tree_sound.specs.Sound.{IsSound}
-use Rattle.tree_shares.specs.Updates.{update, entry_object, inserted, deleted, created_node, created_stripes, destroyed_stripes, gone_node, gone, attributes_bytes, parent_updates, rename_updates, moved_entry, op_updates, unless_none, updates}
+use Rattle.tree_shares.specs.Updates.{update, part_named, inserted, deleted, created_node, created_stripes, destroyed_stripes, gone_node, gone, attributes_bytes, parent_updates, rename_updates, moved_entry, op_updates, unless_none, updates}
 use Rattle.tree_shares.specs.ShareLaws.{UpdatesAreSpelled}
 use Rattle.tree_shares.proofs.Owner.{Clients, client_facts}
 use Rattle.tree_shares.proofs.Finding.{entries_got}
@@ -283,7 +283,7 @@ module _ (targets batch : ℕ) (one : 1 ≤ targets) (few : targets ≤ 16) (sma
   all_destroyed d l p zero low c = tt
   all_destroyed d l p (suc n) low c = destroyed_spell d l p.fid (c (λ (e : suc n ≡ 0). absurd (omega (arith, e)))) p.wide (range_with_len 0 (suc n)) (low_range 0 (suc n) (omega (arith, low)))
 
-  entry_fid : (d : Fid) (l : Layout) (x : List ℕ) → Placed d l → IsFid (entry_object targets d l x)
+  entry_fid : (d : Fid) (l : Layout) (x : List ℕ) → Placed d l → IsFid (part_named targets d l x)
   entry_fid d l x p =
       let count = p.few in
       elim (eqb_tells l.count 0) [
@@ -294,10 +294,10 @@ module _ (targets batch : ℕ) (one : 1 ≤ targets) (few : targets ≤ 16) (sma
       ]
 
   inserted_spells : (d : Fid) (l : Layout) (x : List ℕ) (f : Fid) → Placed d l → IsName x → Spells (inserted targets batch d l x f)
-  inserted_spells d l x f p name = spell kind.Insert (entry_object targets d l x) (x ∷ fid_bytes f ∷ []) refl (entry_fid d l x p) (p_entry x f name)
+  inserted_spells d l x f p name = spell kind.Insert (part_named targets d l x) (x ∷ fid_bytes f ∷ []) refl (entry_fid d l x p) (p_entry x f name)
 
   deleted_spells : (d : Fid) (l : Layout) (x : List ℕ) → Placed d l → IsName x → Spells (deleted targets batch d l x)
-  deleted_spells d l x p name = spell kind.Delete (entry_object targets d l x) (x ∷ []) refl (entry_fid d l x p) (p_name x name)
+  deleted_spells d l x p name = spell kind.Delete (part_named targets d l x) (x ∷ []) refl (entry_fid d l x p) (p_name x name)
 
   moves_spell : (d : Fid) (old new : Layout) → Placed d old → Placed d new → (es : List (List ℕ × Fid)) → AllByRecursion (λ e. IsName e.0) es → AllSpell (flat_map (moved_entry targets batch d old new) es)
   moves_spell d old new p r [] names = tt

@@ -14,7 +14,7 @@ use Rattle.tree_model.specs.Keys.{Layout, Laid, layout_at}
 use Rattle.striped_dir.specs.Parts.{part_of_name}
 use Rattle.object_store.specs.Reads.{node, holder, lookup, child_get}
 use Rattle.tree_shares.specs.Shares.{file_body, directory_body, own_names, names_in, node_object, stripe_object, stripe_fid_of, all_objects, share, is_at}
-use Rattle.tree_shares.specs.Updates.{entry_object}
+use Rattle.tree_shares.specs.Updates.{part_named}
 use Rattle.tree_sound.specs.Sound.{IsSound}
 use Rattle.tree_shares.specs.Telling.{NodesAreTold, NamesAreTold, StripesAreTold, EmptyIsTold}
 use Rattle.tree_shares.proofs.Owner.{owner, index_in, index_of_stripe, owner_of_node, owner_of_stripe, directory_of, client_facts}
@@ -86,7 +86,7 @@ module _ (targets most : ℕ) (few : targets ≤ 16) (l : Laid) (sound : IsSound
       ∙ ap (λ b. cond b (Some (stripe_object d ly names (index_in ly f))) None) (stripe_is_among targets d ly f i low (same_itself f))
       ∙ ap (λ k. Some (stripe_object d ly names k)) (index_of_stripe targets d ly i)
 
-  told_name : (d : Fid) (n : Node) (x : List ℕ) → get l.tree.nodes d ≡ Some n → n.dir ≡ true → lookup (holder (object_at targets l (entry_object targets d (layout_at l d) x))) x ≡ child_get (named l.tree d x)
+  told_name : (d : Fid) (n : Node) (x : List ℕ) → get l.tree.nodes d ≡ Some n → n.dir ≡ true → lookup (holder (object_at targets l (part_named targets d (layout_at l d) x))) x ≡ child_get (named l.tree d x)
   told_name d n x e dir =
       let ly = layout_at l d in
       let names = names_of l.tree d in
@@ -109,7 +109,7 @@ nodes_told targets most l f target few sound is = ap node (at_place targets most
 
 pub names_told : NamesAreTold
 names_told targets most l d n x target few sound e dir is =
-    ap (λ o. lookup (holder o) x) (at_place targets most few l sound (entry_object targets d (layout_at l d) x) target is) ∙ told_name targets most few l sound d n x e dir
+    ap (λ o. lookup (holder o) x) (at_place targets most few l sound (part_named targets d (layout_at l d) x) target is) ∙ told_name targets most few l sound d n x e dir
 
 pub stripes_told : StripesAreTold
 stripes_told targets most l d n i target few sound e low is =

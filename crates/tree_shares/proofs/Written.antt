@@ -20,8 +20,8 @@ use Rattle.out_update.specs.Spelling.{fid_bytes}
 use Rattle.striped_dir.specs.Parts.{part_of_name, create_of, destroy_of}
 use Rattle.tree_shares.specs.Shares.{stripe_fid_of}
 use Rattle.tree_sound.specs.Sound.{IsSound}
-use Rattle.tree_shares.specs.Updates.{update, entry_object, inserted, deleted, created_node, created_stripes, destroyed_stripes, gone_node, gone, parent_updates, rename_updates, moved_entry, op_updates, unless_none, updates}
-use Rattle.tree_shares.specs.Wrote.{is_among, stripes_below, stripes_of, part_named, written_by, wrote}
+use Rattle.tree_shares.specs.Updates.{update, part_named, inserted, deleted, created_node, created_stripes, destroyed_stripes, gone_node, gone, parent_updates, rename_updates, moved_entry, op_updates, unless_none, updates}
+use Rattle.tree_shares.specs.Wrote.{is_among, stripes_below, stripes_of, written_by, wrote}
 use Rattle.tree_shares.specs.ShareLaws.{UpdatesNameWhatIsWritten}
 use Rattle.tree_shares.proofs.Here.{part_below}
 use Rattle.tree_sound.proofs.Basics.{by_bool}
@@ -96,7 +96,7 @@ module _ (targets batch : ℕ) (d : Fid) (l : Layout) (x : Fid) where
       or_true false = refl
 
   -- an entry's object is the directory or one of its stripes
-  entry_absorbed : (y : List ℕ) → (same_fid (entry_object targets d l y) x || (same_fid d x || St)) ≡ (same_fid d x || St)
+  entry_absorbed : (y : List ℕ) → (same_fid (part_named targets d l y) x || (same_fid d x || St)) ≡ (same_fid d x || St)
   entry_absorbed y =
       let p = stripe_fid_of targets d l (part_of_name l y) in
       let left : Bool → Bool = λ b. same_fid (cond b d p) x || (same_fid d x || St) in
@@ -118,17 +118,15 @@ module _ (targets batch : ℕ) (d : Fid) (l : Layout) (x : Fid) where
       all true false = refl
       all false b = refl
 
-part_is_at : (targets : ℕ) (d : Fid) (c s g : ℕ) (y : List ℕ) → part_named targets d (record { count = c; start = s; generation = g }) y ≡ entry_object targets d (record { count = c; start = s; generation = g }) y
-part_is_at targets d zero s g y = refl
-part_is_at targets d (suc c) s g y =
+-- the object of an entry of a striped directory
+pub part_striped : (targets : ℕ) (d : Fid) (c s g : ℕ) (y : List ℕ)
+    → part_named targets d (record { count = suc c; start = s; generation = g }) y ≡ stripe_fid_of targets d (record { count = suc c; start = s; generation = g }) (part_of_name (record { count = suc c; start = s; generation = g }) y)
+part_striped targets d c s g y =
     let l : Layout = record { count = suc c; start = s; generation = g } in
-    elim (eqb_tells (suc c) 0) [
+    elim (eqb_tells l.count 0) [
       | inl h ↦ let e = h.1 in absurd (omega (arith, e))
-      | inr h ↦ sym (ap (λ b. cond b d (stripe_fid_of targets d l (part_of_name l y))) h.0)
+      | inr h ↦ ap (λ b. cond b d (stripe_fid_of targets d l (part_of_name l y))) h.0
     ]
-
-part_is : (targets : ℕ) (d : Fid) (l : Layout) (y : List ℕ) → part_named targets d l y ≡ entry_object targets d l y
-part_is targets d l y = part_is_at targets d l.count l.start l.generation y
 
 -- ---- changes
 
@@ -146,10 +144,10 @@ module _ (targets most batch : ℕ) (l : Laid) (sound : IsSound targets most l) 
       ∙ sym (or_assoc (is_among (written_by targets l c) x) (W cs) (W ds)) ∙ ap (λ b. b || W ds) (sym (among-append (written_by targets l c) (flat_map (written_by targets l) cs) x))
 
   abbrev P : Fid → List ℕ → Bool
-  P d y = same_fid (entry_object targets d (layout_at l d) y) x
+  P d y = same_fid (part_named targets d (layout_at l d) y) x
 
   part_same : (d : Fid) (y : List ℕ) → P d y ≡ same_fid (part_named targets d (layout_at l d) y) x
-  part_same d y = ap (λ f. same_fid f x) (sym (part_is targets d (layout_at l d) y))
+  part_same d y = refl
 
   no_stripes : (f : Fid) → layout_at l f ≡ plain_layout → is_among (stripes_of targets f (layout_at l f)) x ≡ false
   no_stripes f e = ap (λ y. is_among (stripes_of targets f y) x) e
@@ -216,7 +214,7 @@ module _ (targets most batch : ℕ) (l : Laid) (sound : IsSound targets most l) 
       ∙ or_assoc (N (moved_entry targets batch d old new e) x) rest all ∙ ap (λ b. N (moved_entry targets batch d old new e) x || b) (moves_absorbed d old new es) ∙ one
     where
       after_insert : (N (inserted targets batch d new e.0 e.1 ∷ []) x || (same_fid d x || is_among (stripes_of targets d new) x)) ≡ (same_fid d x || is_among (stripes_of targets d new) x)
-      after_insert = ap (λ b. b || (same_fid d x || is_among (stripes_of targets d new) x)) (or_false (same_fid (entry_object targets d new e.0) x)) ∙ entry_absorbed targets batch d new x e.0
+      after_insert = ap (λ b. b || (same_fid d x || is_among (stripes_of targets d new) x)) (or_false (same_fid (part_named targets d new e.0) x)) ∙ entry_absorbed targets batch d new x e.0
 
       one : (N (moved_entry targets batch d old new e) x || (same_fid d x || is_among (stripes_of targets d new) x)) ≡ (same_fid d x || is_among (stripes_of targets d new) x)
       one =

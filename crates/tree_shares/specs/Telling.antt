@@ -10,7 +10,7 @@ use Rattle.tree_model.specs.Tree.{Names, names_of, named}
 use Rattle.tree_model.specs.Keys.{Layout, Laid, layout_at}
 use Rattle.object_store.specs.Reads.{node, holder, lookup, child_get}
 use Rattle.tree_shares.specs.Shares.{names_in, node_object, stripe_object, stripe_fid_of, share}
-use Rattle.tree_shares.specs.Updates.{entry_object}
+use Rattle.tree_shares.specs.Updates.{part_named}
 use Rattle.tree_sound.specs.Sound.{IsSound}
 
 -- at the place of any FID: the node with it, or that there is none; a stripe is no node
@@ -23,8 +23,8 @@ NodesAreTold =
 abbrev pub NamesAreTold : Type 0
 NamesAreTold =
     (targets most : ℕ) (l : Laid) (d : Fid) (n : Node) (name : List ℕ) (target : ℕ) → targets ≤ 16 → IsSound targets most l → get l.tree.nodes d ≡ Some n → n.dir ≡ true
-    → place_of targets (entry_object targets d (layout_at l d) name) ≡ Some target
-    → lookup (holder (get (share targets l target) (entry_object targets d (layout_at l d) name))) name ≡ child_get (named l.tree d name)
+    → place_of targets (part_named targets d (layout_at l d) name) ≡ Some target
+    → lookup (holder (get (share targets l target) (part_named targets d (layout_at l d) name))) name ≡ child_get (named l.tree d name)
 
 -- at the place of a stripe: the entries whose part it is
 abbrev pub StripesAreTold : Type 0

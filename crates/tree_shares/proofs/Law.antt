@@ -15,6 +15,7 @@ use Rattle.tree_model.specs.Changes.{Change, PutNode, PutName, DropName}
 use Rattle.tree_model.specs.Step.{first_fault, parent_fault, taken_fault, client_fault, layout_fault, stripes_fault, link_fault, found_fault, there_fault, over_fault, loop_fault, moved_fault, create_fault, same_place, same_node, replaced, renamed, moved_node, changed_node, unlinked, op_fault, op_changes}
 use Rattle.tree_model.specs.Keys.{Laid, layout_at, plain_layout, laid_after}
 use Rattle.tree_model.specs.Looks.{changes}
+use Rattle.tree_model.specs.Laws.{unless}
 use Rattle.tree_model.specs.Kept.{laid_step}
 use Rattle.out_update.specs.declared.update.Update.{Update}
 use Rattle.object_store.specs.Meaning.{after_all}
@@ -28,7 +29,7 @@ use Rattle.tree_shares.proofs.Chains.{Goes}
 use Rattle.tree_shares.proofs.Ops.{Made, at_node, made_attr, made_xattr_set, made_xattr_del, made_create, made_mkdir, made_link, made_migrate}
 use Rattle.tree_shares.proofs.Moving.{made_unlink, made_rename}
 use Rattle.tree_sound.proofs.Basics.{neither, by_bool}
-use Rattle.tree_sound.proofs.Faults.{first_none, parent_none, taken_none, absent_none, unmet, client_none, stripes_none, link_none, found_none, setxattr_there, xattr_there, not_old_at, chosen, decides}
+use Rattle.tree_sound.proofs.Faults.{first_none, parent_none, taken_none, absent_none, unmet, client_none, stripes_none, link_none, found_none, setxattr_there, xattr_there, not_old_at, decides}
 
 -- a node that is there: what is changed of it is that node
 module _ (targets : ℕ) (l : Laid) (f : Fid) (us : List Update) (change : Node → Node) where
@@ -142,10 +143,10 @@ module _ (targets batch most : ℕ) (few : targets ≤ 16) (l : Laid) (sound : I
   op_goes (ops.GetAttr f) is h = λ q. refl
   op_goes (ops.GetXattr f x) is h = λ q. refl
 
-  pub changes_are : (op : Op) → changes targets t op ≡ chosen (op_fault targets t op) (op_changes t op)
+  pub changes_are : (op : Op) → changes targets t op ≡ unless (op_fault targets t op) (op_changes t op)
   changes_are op = decides targets t op (op_fault targets t op) refl
 
-  by_fault : (op : Op) (f : Option Errno) → op_fault targets t op ≡ f → IsOp targets op → Made targets (op_updates targets batch l op) l (chosen f (op_changes t op))
+  by_fault : (op : Op) (f : Option Errno) → op_fault targets t op ≡ f → IsOp targets op → Made targets (op_updates targets batch l op) l (unless f (op_changes t op))
   by_fault op None e is = op_goes op is e
   by_fault op (Some x) e is = λ q. refl
 

@@ -1,5 +1,5 @@
 -- What holds where no check fails.
-use Rattle.std.proofs.Common.{◌≡◌, ◌≤◌, ◌<◌, ◌==◌, ◌&&◌, nat_le, nat_lt, if◌then◌else◌, ℕ, Bool, true, false, List, [], Option, Some, None, inl, inr, refl, sym, ap, ◌∙◌, arith}
+use Rattle.std.proofs.Common.{◌≡◌, ◌≤◌, ◌<◌, ◌==◌, ◌&&◌, nat_le, nat_lt, if◌then◌else◌, ℕ, Bool, true, false, List, Option, Some, None, inl, inr, refl, sym, ap, ◌∙◌, arith}
 use Rattle.std.proofs.lemmas.Bool.Decides.{nat_tests, eqb_tells}
 use Rattle.std.specs.FinMap.{empty, get, len, get-empty, empty_of_len}
 use Rattle.fid_space.specs.declared.fid.Fid.{Fid}
@@ -8,16 +8,14 @@ use Rattle.tree_model.specs.declared.node.Node.{Node}
 use Rattle.tree_model.specs.declared.errno.Errno.{Errno}
 use Rattle.tree_model.specs.declared.errno.Errno.TheVariants.{EPERM, ENOENT, EEXIST, ENOTDIR, EISDIR, EINVAL, EMLINK, ENOTEMPTY}
 use Rattle.tree_model.specs.declared.op.Op.{Op}
-use Rattle.tree_model.specs.declared.reply.Reply.{Reply}
-use Rattle.tree_model.specs.declared.reply.Reply.TheVariants as replies
 use Rattle.tree_model.specs.Tree.{Tree, Names, names_of, named, same_fid}
-use Rattle.tree_model.specs.Changes.{Change}
-use Rattle.tree_model.specs.Step.{first_fault, parent_fault, taken_fault, absent_fault, client_fault, stripes_fault, link_fault, found_fault, file_fault, kind_fault, empty_fault, there_fault, over_fault, setxattr_fault, xattr_fault, is_dir, same_node, op_fault, op_changes, op_reply}
+use Rattle.tree_model.specs.Step.{first_fault, parent_fault, taken_fault, absent_fault, client_fault, stripes_fault, link_fault, found_fault, file_fault, kind_fault, empty_fault, there_fault, over_fault, setxattr_fault, xattr_fault, is_dir, same_node, op_fault, op_changes}
 use Rattle.tree_model.specs.Keys.{Laid}
-use Rattle.tree_model.specs.Looks.{decided, plan, changes}
+use Rattle.tree_model.specs.Looks.{changes}
 use Rattle.tree_model.specs.Fids.{name_cmp}
 use Rattle.tree_model.proofs.Fids.{fid_ties, told_same}
-use Rattle.tree_model.proofs.Deciding.{op_decides}
+use Rattle.tree_model.proofs.Deciding.{changes_decided}
+use Rattle.tree_model.specs.Laws.{unless}
 use Rattle.tree_sound.proofs.Basics.{same, by_bool, not_both, some_none}
 use Rattle.tree_sound.proofs.Steps.{IsNotOld}
 
@@ -111,15 +109,6 @@ module _ (l : Laid) (q : Fid) (y : List ℕ) (m : Fid) (k : Node) (h : get l.tre
       (λ s. s) in
       (not_q, apart_of m o other)
 
--- the changes of an operation where no check fails, and else none
-abbrev pub chosen : Option Errno → List Change → List Change
-chosen None cs = cs
-chosen (Some e) cs = []
-
-pub decides : (targets : ℕ) (t : Tree) (op : Op) (f : Option Errno) → op_fault targets t op ≡ f → changes targets t op ≡ chosen f (op_changes t op)
-decides targets t op None e =
-    let d : decided (plan targets op) t ≡ (op_reply t op, op_changes t op) = rw e at (op_decides targets t op) in
-    ap (λ (o : Reply × List Change). o.1) d
-decides targets t op (Some x) e =
-    let d : decided (plan targets op) t ≡ (replies.Err x, []) = rw e at (op_decides targets t op) in
-    ap (λ (o : Reply × List Change). o.1) d
+-- the changes of an operation whose first fault is known
+pub decides : (targets : ℕ) (t : Tree) (op : Op) (f : Option Errno) → op_fault targets t op ≡ f → changes targets t op ≡ unless f (op_changes t op)
+decides targets t op f e = changes_decided targets t op ∙ ap (λ f. unless f (op_changes t op)) e

@@ -16,13 +16,14 @@ use Rattle.tree_model.specs.Names.{IsName}
 use Rattle.tree_model.specs.Changes.{Change, PutNode, PutName, DropName, NewLayout}
 use Rattle.tree_model.specs.Step.{first_fault, parent_fault, taken_fault, client_fault, layout_fault, stripes_fault, link_fault, file_fault, directory_fault, found_fault, kind_fault, empty_fault, there_fault, over_fault, loop_fault, moved_fault, create_fault, setxattr_fault, is_dir, same_place, same_node, released, replaced, renamed, moved_node, changed_node, unlinked, op_fault, op_changes}
 use Rattle.tree_model.specs.Keys.{Laid, layout_with, laid_after, laid_after_all}
+use Rattle.tree_model.specs.Laws.{unless}
 use Rattle.tree_model.specs.Kept.{laid_step}
 use Rattle.tree_model.proofs.Fids.{told_same}
 use Rattle.tree_sound.specs.Sound.{AllAreSound, IsNodeFid, IsLaid, FitsNode}
 use Rattle.tree_sound.proofs.Basics.{same, by_bool, not_both, neither, some_none, no_self}
 use Rattle.tree_sound.proofs.Nodes.{file_fits, directory_fits, links_fit, attributes_fit, xattr_set_fits, xattr_del_fits}
 use Rattle.tree_sound.proofs.Steps.{put_node_at, elsewhere, at_itself, laid_append, replaced_alike}
-use Rattle.tree_sound.proofs.Faults.{first_none, parent_none, taken_none, absent_none, unmet, client_none, stripes_none, link_none, found_none, file_only, setxattr_there, xattr_there, no_len, not_old_at, chosen, decides}
+use Rattle.tree_sound.proofs.Faults.{first_none, parent_none, taken_none, absent_none, unmet, client_none, stripes_none, link_none, found_none, file_only, setxattr_there, xattr_there, no_len, not_old_at, decides}
 use Rattle.tree_sound.proofs.Keeping.{all_more, laid_with, laid_plain, sound_node, sound_none, keep_put, renewed, keep_put_name, keep_drop_name, keep_new_layout, keep_next_layout, keep_released, keep_moved, still_bare}
 
 module _ (targets most : ℕ) (l : Laid) (sound : AllAreSound targets most l) where
@@ -212,7 +213,7 @@ module _ (targets most : ℕ) (l : Laid) (sound : AllAreSound targets most l) wh
   op_keeps (ops.GetAttr f) is h = more_of _ sound
   op_keeps (ops.GetXattr f x) is h = more_of _ sound
 
-  by_fault : (op : Op) (f : Option Errno) → op_fault targets t op ≡ f → IsOp targets op → AllAreSound targets (suc most) (laid_after_all l (chosen f (op_changes t op)))
+  by_fault : (op : Op) (f : Option Errno) → op_fault targets t op ≡ f → IsOp targets op → AllAreSound targets (suc most) (laid_after_all l (unless f (op_changes t op)))
   by_fault op None e is = op_keeps op is e
   by_fault op (Some x) e is = more_of l sound
 

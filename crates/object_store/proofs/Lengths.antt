@@ -17,7 +17,7 @@ pub four : (n : ℕ) → length (word w32 n) ≡ 4
 unfolding word
 four n = refl
 
-eight : (n : ℕ) → length (word w64 n) ≡ 8
+pub eight : (n : ℕ) → length (word w64 n) ≡ 8
 unfolding word
 eight n = refl
 

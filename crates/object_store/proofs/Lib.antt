@@ -13,3 +13,5 @@ pub mod ImageOrders
 pub mod ImageItems
 pub mod Imaged
 pub mod Fronts
+pub mod Laid
+pub mod PartTexts

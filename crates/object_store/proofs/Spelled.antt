@@ -91,7 +91,7 @@ image_length m =
 
 -- ---- the values of attributes
 
-by_steps : {X : Type 0} (P : X → Type 0) (xs : List X) → All P xs → AllByRecursion P xs
+pub by_steps : {X : Type 0} (P : X → Type 0) (xs : List X) → All P xs → AllByRecursion P xs
 by_steps P [] h = tt
 by_steps P (x ∷ xs) h = (h 0 x (omega arith), by_steps P xs (λ k d lt. h (suc k) d (omega arith)))
 
@@ -105,7 +105,7 @@ all_short m ordered short = by_steps (λ (a : List ℕ × List ℕ). length a.1 
 three : (a b c d : List ℕ) → (a ++ (b ++ c)) ++ d ≡ a ++ (b ++ (c ++ d))
 three a b c d = simp append_assoc
 
-four_parts : (a b c d e : List ℕ) → (a ++ (b ++ (c ++ d))) ++ e ≡ a ++ (b ++ (c ++ (d ++ e)))
+pub four_parts : (a b c d e : List ℕ) → (a ++ (b ++ (c ++ d))) ++ e ≡ a ++ (b ++ (c ++ (d ++ e)))
 four_parts a b c d e = simp append_assoc
 
 pub entry_joined : (head name : List ℕ) (fid : Fid) → head ≡ word w16 (length name) ++ (word w16 0 ++ (word w32 0 ++ fid_bytes fid)) → head ++ padded_text name ≡ entry_text (name, fid)

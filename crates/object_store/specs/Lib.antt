@@ -6,3 +6,4 @@ pub mod Reads
 pub mod Following
 pub mod ImageText
 pub mod ImageReading
+pub mod Pieces

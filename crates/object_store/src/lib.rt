@@ -10,6 +10,7 @@
 
 mod applying;
 mod body;
+mod copying;
 mod fault;
 mod fields;
 mod following;
@@ -21,7 +22,10 @@ mod meaning;
 mod object;
 mod objects;
 mod parsing;
+mod parts;
+mod pieces;
 mod reading;
+mod rest;
 mod spelling;
 mod writing;
 
@@ -29,6 +33,7 @@ pub use body::{Body, ObjectKind};
 pub use fault::ImageFault;
 pub use image::one_image_per_objects;
 pub use objects::Objects;
+pub use pieces::ImagePieces;
 
 #[cfg(test)]
 mod tests;

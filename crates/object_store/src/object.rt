@@ -182,7 +182,7 @@ impl Stored {
 }
 
 /// How many bytes a name takes with its padding.
-fn name_size(name: &Name) -> u64
+pub(crate) fn name_size(name: &Name) -> u64
     ensures value { result ≡ padded (length name.now) }
     ensures small { result ≤ 262 }
 {
@@ -191,7 +191,7 @@ fn name_size(name: &Name) -> u64
 }
 
 /// How many bytes an attribute takes.
-fn attribute_size(name: &Name, value: &Bytes) -> u64
+pub(crate) fn attribute_size(name: &Name, value: &Bytes) -> u64
     requires { length value.now ≤ 4096 }
     ensures value { result ≡ attribute_size name.now value.now }
     ensures small { result ≤ 4373 }

@@ -281,3 +281,42 @@ fn the_image_after_updates(rt: HostRuntime) -> Result<(), Fail> {
     check_size(&rt, alloc, &mut objects, 2, 2, &[], 184)?;
     Ok(())
 }
+
+/// The image in pieces of a length, each of which is also what stands at its place. There are turns to spare.
+fn check_pieces(
+    rt: &impl Abort,
+    alloc: Global,
+    objects: &Objects,
+    image: &[u8],
+    length: usize,
+) -> Result<(), Fail> {
+    let mut out = Vec::new(alloc);
+    let mut piece = Vec::from_elem(alloc, 0xee, length)?;
+    let mut again = Vec::from_elem(alloc, 0xee, length)?;
+    let mut left = objects.pieces();
+    for _turn in 0..=image.len() {
+        let place = out.len() as u64;
+        let count = left.copy_next(piece.as_mut_slice());
+        assert_eq!(rt;
+            objects.copy_from(place, again.as_mut_slice()),
+            count,
+            "{place}"
+        );
+        assert_eq!(rt; piece.as_slice(), again.as_slice(), "{place}");
+        assert!(rt; count <= piece.len());
+        out.extend_from_slice(piece.as_slice().split_at(count).0)?;
+    }
+    assert_eq!(rt; out.as_slice(), image);
+    Ok(())
+}
+
+#[test]
+fn images_in_pieces(rt: HostRuntime) -> Result<(), Fail> {
+    let alloc = rt.alloc();
+    let objects = some_objects(alloc)?;
+    let mut image = Bytes::new(alloc);
+    objects.encode(&mut image)?;
+    check_pieces(&rt, alloc, &objects, image.bytes(), 1)?;
+    check_pieces(&rt, alloc, &objects, image.bytes(), 7)?;
+    check_pieces(&rt, alloc, &objects, image.bytes(), 4096)
+}

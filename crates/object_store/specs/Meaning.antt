@@ -1,5 +1,5 @@
 -- What each update of a writing type does to the objects.
-use Rattle.std.specs.Prelude.{ℕ, ◌+◌, ◌-◌, Bool, true, false, ◌&&◌, nat_le, if◌then◌else◌, List, [], ◌∷◌, Option, Some, None, slice_get}
+use Rattle.std.specs.Prelude.{ℕ, ◌+◌, ◌-◌, Bool, true, false, ◌&&◌, nat_le, if◌then◌else◌, List, [], ◌∷◌, length, Option, Some, None, Result, Ok, Err, slice_get}
 use Rattle.std.specs.Int.{w32}
 use Rattle.std.specs.Option.{unwrap_or}
 use Rattle.std.specs.FinMap.{get, insert, remove}
@@ -13,8 +13,10 @@ use Rattle.striped_dir.specs.declared.layout.Layout.{Layout}
 use Rattle.object_store.specs.declared.body.Body.{Body}
 use Rattle.object_store.specs.declared.body.ObjectKind.{ObjectKind}
 use Rattle.object_store.specs.declared.body.ObjectKind.TheVariants.{File, Directory, Stripe}
-use Rattle.object_store.specs.Bodies.{is_allowed, body_at, layout_at}
+use Rattle.object_store.specs.declared.fault.ImageFault.{ImageFault}
+use Rattle.object_store.specs.Bodies.{is_allowed, layout_at}
 use Rattle.object_store.specs.Objects.{Object, ObjectMap, fresh}
+use Rattle.object_store.specs.ImageReading.{body_at}
 
 -- a parameter of an update
 abbrev pub param : Update → ℕ → List ℕ
@@ -82,10 +84,10 @@ abbrev pub put_back : ObjectMap → Fid → Option Object → ObjectMap
 put_back m fid None = remove m fid
 put_back m fid (Some o) = insert m fid o
 
--- the object becomes a body, if it is one and allowed
-abbrev pub created : ObjectMap → Fid → Option (Body × List ℕ) → ObjectMap
-created m fid None = m
-created m fid (Some b) = if is_allowed b.0 then insert m fid (fresh b.0) else m
+-- the object becomes a body, if the bytes are one that an object may have
+abbrev pub created : ObjectMap → Fid → Result (Body × List ℕ) ImageFault → ObjectMap
+created m fid (Ok b) = insert m fid (fresh b.0)
+created m fid (Err e) = m
 
 -- an update on an object that isn't there changes nothing
 abbrev pub changed_there : ObjectMap → Fid → Option Object → Kind → List ℕ → List ℕ → ObjectMap
@@ -93,7 +95,7 @@ changed_there m fid None k p q = m
 changed_there m fid (Some o) k p q = put_back m fid (changed o k p q)
 
 abbrev pub after_kind : ObjectMap → Fid → Kind → List ℕ → List ℕ → ObjectMap
-after_kind m fid kind.Create p q = created m fid (body_at p)
+after_kind m fid kind.Create p q = created m fid (body_at (length p) p)
 after_kind m fid k p q = changed_there m fid (get m fid) k p q
 
 -- the objects after an update

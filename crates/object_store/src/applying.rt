@@ -1,13 +1,13 @@
-ghost use Rattle.std.specs.Prelude.{◌≡◌, slice_get, All, OnOk};
+ghost use Rattle.std.specs.Prelude.{◌≡◌, length, slice_get, All, OnOk};
 ghost use Rattle.std.specs.FinMap as map;
 ghost use Rattle.out_update.specs.Spelling.{FitsUpdate};
-ghost use Rattle.object_store.specs.Bodies.{body_at};
+ghost use Rattle.object_store.specs.ImageReading.{body_at};
 ghost use Rattle.object_store.specs.Meaning.{param, created, changed_there, after, after_maybe, after_all};
 
+use crate::body::Body;
 use crate::meaning::parameter;
 use crate::object::Stored;
 use crate::objects::Objects;
-use crate::parsing::body_at;
 use fid_space::Fid;
 use out_update::{Kind, Update, UpdateRequest};
 use std::alloc::AllocError as Memory;
@@ -15,16 +15,12 @@ use std::alloc::AllocError as Memory;
 impl Objects {
     /// Puts a new object with the body that the bytes are, if they are one.
     fn create(&mut self, fid: Fid, bytes: &[u8]) -> Result<(), Memory>
-        ensures { OnOk result (self.new ≡ created self.old fid (body_at bytes.now)) }
+        ensures { OnOk result (self.new ≡ created self.old fid (body_at (length bytes.now) bytes.now)) }
     {
-        let body = match body_at(bytes) {
-            Ok((body, _)) => body,
-            Err(_) => return Ok(()),
-        };
-        if body.is_allowed() {
-            self.put(fid, Stored::new(self.alloc(), body))?;
+        match Body::decode(bytes) {
+            Ok((body, _)) => self.put(fid, Stored::new(self.alloc(), body)),
+            Err(_) => Ok(()),
         }
-        Ok(())
     }
 
     /// Changes an object, where it is there. After want of memory they are some objects.

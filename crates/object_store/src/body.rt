@@ -1,5 +1,5 @@
 ghost use Rattle.std.specs.Prelude.{◌≡◌, ◌≤◌, true};
-ghost use Rattle.object_store.specs.Bodies.{number_of, kind_with, is_plain, may_lay, may_be_file, may_be_directory, may_be_stripe, is_allowed};
+ghost use Rattle.object_store.specs.Bodies.{number_of, is_plain, may_lay, may_be_file, may_be_directory, may_be_stripe, is_allowed};
 ghost use Rattle.object_store.specs.Objects.{no_layout, root_body};
 
 use fid_space::Fid;
@@ -45,18 +45,6 @@ pub(crate) fn number_of_kind(kind: ObjectKind) -> u32
         ObjectKind::File => 1,
         ObjectKind::Directory => 2,
         ObjectKind::Stripe => 3,
-    }
-}
-
-/// The kind with a number.
-pub(crate) fn kind_of(number: u32) -> Option<ObjectKind>
-    ensures { result ≡ kind_with number }
-{
-    match number {
-        1 => Some(ObjectKind::File),
-        2 => Some(ObjectKind::Directory),
-        3 => Some(ObjectKind::Stripe),
-        _ => None,
     }
 }
 

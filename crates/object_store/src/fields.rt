@@ -228,6 +228,17 @@ pub(crate) fn body(len: usize, rest: &[u8]) -> Result<(Body, &[u8]), ImageFault>
     Ok((body, after))
 }
 
+impl Body {
+    /// The body in the first 48 bytes, and what is left behind it. Bytes that are no body that an object may
+    /// have are refused with the place of the first number that can't stand, missing ones with their length.
+    pub fn decode(bytes: &[u8]) -> Result<(Body, &[u8]), ImageFault>
+        ensures value { Sees (λ x. (x.0, x.1.now)) result (body_at (length bytes.now) bytes.now) }
+        ensures allowed { IfOk result (λ x. is_allowed x.0 ≡ true) }
+    {
+        body(bytes.len(), bytes)
+    }
+}
+
 /// The place of the first byte that a name can't have.
 fn name_fault(bytes: &[u8]) -> Option<usize>
     ensures value { result ≡ name_fault bytes.now }

@@ -21,21 +21,23 @@ pub(crate) fn fid_array(fid: Fid) -> [u8; 16]
     bytes
 }
 
-/// The bytes of a body.
-#[tactic(auto, unfolding(byte_grammar::specs::Numbers::word, crate::specs::Bodies::body_bytes))]
-pub(crate) fn body_array(body: &Body) -> [u8; 48]
-    ensures { result ≡ body_bytes body.now }
-{
-    let mut bytes = [0; 48];
-    bytes[..4].copy_from_slice(&number_of_kind(body.kind).to_le_bytes());
-    bytes[4..8].copy_from_slice(&body.mode.to_le_bytes());
-    bytes[8..12].copy_from_slice(&body.uid.to_le_bytes());
-    bytes[12..16].copy_from_slice(&body.gid.to_le_bytes());
-    bytes[16..20].copy_from_slice(&body.links.to_le_bytes());
-    bytes[20..28].copy_from_slice(&body.layout.encode());
-    bytes[28..44].copy_from_slice(&fid_array(body.fid));
-    bytes[44..].copy_from_slice(&body.index.to_le_bytes());
-    bytes
+impl Body {
+    /// Its 48 bytes: kind, mode, owner, group, links, layout, FID and index.
+    #[tactic(auto, unfolding(byte_grammar::specs::Numbers::word, crate::specs::Bodies::body_bytes))]
+    pub fn encode(&self) -> [u8; 48]
+        ensures { result ≡ body_bytes self.now }
+    {
+        let mut bytes = [0; 48];
+        bytes[..4].copy_from_slice(&number_of_kind(self.kind).to_le_bytes());
+        bytes[4..8].copy_from_slice(&self.mode.to_le_bytes());
+        bytes[8..12].copy_from_slice(&self.uid.to_le_bytes());
+        bytes[12..16].copy_from_slice(&self.gid.to_le_bytes());
+        bytes[16..20].copy_from_slice(&self.links.to_le_bytes());
+        bytes[20..28].copy_from_slice(&self.layout.encode());
+        bytes[28..44].copy_from_slice(&fid_array(self.fid));
+        bytes[44..].copy_from_slice(&self.index.to_le_bytes());
+        bytes
+    }
 }
 
 /// What stands before the parts of an object: its FID, its body, and how many entries and attributes it has.
@@ -45,7 +47,7 @@ pub(crate) fn object_head(fid: Fid, body: &Body, entries: u32, attributes: u32) 
 {
     let mut head = [0; 72];
     head[..16].copy_from_slice(&fid_array(fid));
-    head[16..64].copy_from_slice(&body_array(body));
+    head[16..64].copy_from_slice(&body.encode());
     head[64..68].copy_from_slice(&entries.to_le_bytes());
     head[68..].copy_from_slice(&attributes.to_le_bytes());
     head

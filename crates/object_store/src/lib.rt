@@ -17,6 +17,7 @@ mod following;
 mod heads;
 mod image;
 mod items;
+mod laws;
 mod limits;
 mod meaning;
 mod object;
@@ -32,6 +33,7 @@ mod writing;
 pub use body::{Body, ObjectKind};
 pub use fault::ImageFault;
 pub use image::one_image_per_objects;
+pub use laws::one_spelling_per_body;
 pub use objects::Objects;
 pub use pieces::ImagePieces;
 

@@ -3,10 +3,9 @@ ghost use Rattle.std.specs.Option.{option_map};
 ghost use Rattle.byte_grammar.specs.Values.{Gives};
 ghost use Rattle.out_update.specs.Values.{fid_value};
 ghost use Rattle.striped_dir.specs.Layouts.{layout_in};
-ghost use Rattle.object_store.specs.Bodies.{ok, layout_at, body_at};
+ghost use Rattle.object_store.specs.Bodies.{ok, layout_at};
 ghost use Rattle.object_store.specs.Meaning.{attributes_at};
 
-use crate::body::{Body, kind_of};
 use byte_grammar::{BuildFault, part, u32_at, u64_at};
 use fid_space::Fid;
 use striped_dir::Layout;
@@ -45,37 +44,6 @@ pub(crate) fn layout_at(bytes: &[u8]) -> Result<(Layout, &[u8]), BuildFault>
         Some(layout) => Ok((layout, rest)),
         None => Err(BuildFault::Short),
     }
-}
-
-/// The body in the first 48 bytes, and the bytes behind it. Its kind and its layout may stand; the other
-/// numbers are any.
-#[tactic(auto, unfolding(crate::specs::Bodies::body_at))]
-pub(crate) fn body_at(bytes: &[u8]) -> Result<(Body, &[u8]), BuildFault>
-    ensures value { Gives (λ x. (x.0, x.1.now)) result (body_at bytes.now) }
-    ensures free { IsErrOf result BuildFault.Memory → ⊥ }
-{
-    let (number, rest) = u32_at(bytes)?;
-    let Some(kind) = kind_of(number) else {
-        return Err(BuildFault::Short);
-    };
-    let (mode, rest) = u32_at(rest)?;
-    let (uid, rest) = u32_at(rest)?;
-    let (gid, rest) = u32_at(rest)?;
-    let (links, rest) = u32_at(rest)?;
-    let (layout, rest) = layout_at(rest)?;
-    let (fid, rest) = fid_at(rest)?;
-    let (index, rest) = u32_at(rest)?;
-    let body = Body {
-        kind,
-        mode,
-        uid,
-        gid,
-        links,
-        layout,
-        fid,
-        index,
-    };
-    Ok((body, rest))
 }
 
 /// Mode, owner and group in the first 12 bytes.

@@ -7,7 +7,7 @@ ghost use Rattle.object_store.specs.Bodies.{body_bytes};
 ghost use Rattle.object_store.specs.Reads.{entry_bytes};
 
 use crate::body::Body;
-use crate::heads::{body_array, fid_array};
+use crate::heads::fid_array;
 use byte_grammar::put16;
 use fid_space::Fid;
 use std::alloc::AllocError as Memory;
@@ -25,7 +25,7 @@ pub(crate) fn put_fid(out: &mut Vec<u8>, fid: Fid) -> Result<(), Memory>
 pub(crate) fn put_body(out: &mut Vec<u8>, body: &Body) -> Result<(), Memory>
     ensures { OnOk result (out.new.items ≡ out.old.items ++ body_bytes body.now) }
 {
-    out.extend_from_slice(&body_array(body))
+    out.extend_from_slice(&body.encode())
 }
 
 /// Adds an entry: the length of its name, the name, and its FID, without padding.

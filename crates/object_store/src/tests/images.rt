@@ -320,3 +320,20 @@ fn images_in_pieces(rt: HostRuntime) -> Result<(), Fail> {
     check_pieces(&rt, alloc, &objects, image.bytes(), 7)?;
     check_pieces(&rt, alloc, &objects, image.bytes(), 4096)
 }
+
+#[test]
+fn a_body_is_read_back(rt: HostRuntime) -> Result<(), Fail> {
+    let alloc = rt.alloc();
+    let mut bytes = body(alloc, [2, 0o755, 5, 6, 2], [3, 1, 0, 0, 7, 0, 0, 0], 9, 0)?;
+    bytes.push(1)?;
+    match Body::decode(&bytes) {
+        Ok((read, rest)) => {
+            assert_eq!(rt; read.encode().as_slice(), bytes.as_slice().split_at(48).0);
+            assert_eq!(rt; rest, [1].as_slice());
+        }
+        Err(_) => assert!(rt; false),
+    }
+    let wide = body(alloc, [2, 0o10000, 5, 6, 2], [3, 1, 0, 0, 7, 0, 0, 0], 9, 0)?;
+    assert_eq!(rt; Body::decode(&wide).err(), Some(ImageFault::BadImage(4)));
+    Ok(())
+}

@@ -14,7 +14,7 @@ unfolding image_size
 stored_none =
     let e = total-empty fid_cmp size_at in
     let l = len-empty fid_cmp Object in
-    record { few = omega (arith, l); exact = omega (arith, e) }
+    record { few = omega (arith, l); small = omega arith; exact = omega (arith, e) }
 
 pub image_put : (m : ObjectMap) (fid : Fid) (o : Object) → image_size (insert m fid o) + weight_at size_at fid (get m fid) ≡ image_size m + object_size o
 unfolding image_size

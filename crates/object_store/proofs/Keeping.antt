@@ -61,6 +61,14 @@ entry_more o name fid is =
     let w = ap (weight_at entry_size name) is in
     (omega (arith, t, w), len-insert names_total o.entries name fid ∙ ap (λ x. cond (is_some x) (len o.entries) (len o.entries + 1)) is)
 
+-- an entry more, or another FID under its name
+pub entry_put : (o : Object) (name : List ℕ) (fid : Fid)
+    → object_size (record o { entries = insert o.entries name fid }) + weight_at entry_size name (get o.entries name) ≡ object_size o + entry_size name fid
+unfolding object_size
+entry_put o name fid =
+    let t = total-insert name_cmp names_total exact_names entry_size o.entries name fid in
+    omega (arith, t)
+
 -- an entry less
 pub entry_less : (o : Object) (name : List ℕ) → object_size (record o { entries = remove o.entries name }) + weight_at entry_size name (get o.entries name) ≡ object_size o
 unfolding object_size

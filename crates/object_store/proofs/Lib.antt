@@ -14,4 +14,5 @@ pub mod ImageItems
 pub mod Imaged
 pub mod Fronts
 pub mod Laid
+pub mod Growth
 pub mod PartTexts

@@ -45,4 +45,5 @@ pub record IsStored (o : Object) (size : ℕ) : Type 0 where
 -- what is so of all objects, and of their size
 pub record AreStored (m : ObjectMap) (size : ℕ) : Type 0 where
   pub few : len m < 2 ^ 32
+  pub small : size ≤ 2 ^ 62
   pub exact : size ≡ image_size m

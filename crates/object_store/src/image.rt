@@ -1,4 +1,4 @@
-ghost use Rattle.std.specs.Prelude.{◌≡◌, ◌<◌, ℕ, List, get_or, ◌≤◌, ◌++◌, Ok, [], length, take, IfOk, OnOk, OnErr};
+ghost use Rattle.std.specs.Prelude.{◌≡◌, ◌<◌, ◌^◌, ℕ, List, get_or, ◌≤◌, ◌++◌, Ok, [], length, take, IfOk, OnOk, OnErr};
 ghost use Rattle.object_store.specs.Objects.{ObjectMap};
 ghost use Rattle.object_store.specs.ImageText.{image_text, FitsObjects, spells, IsFront};
 ghost use Rattle.object_store.specs.ImageReading.{Gives, image_at};
@@ -13,10 +13,12 @@ use fid_space::Bytes;
 use std::alloc::{AllocError as Memory, Global};
 
 impl Objects {
-    /// How many bytes their image has. It is kept along, and takes no walk over the objects.
+    /// How many bytes their image has. It is kept along, and takes no walk over the objects. It is bounded, so
+    /// that it may be added to other lengths: what would pass the bound is answered as want of memory.
     #[tactic(auto, using(crate::proofs::Spelled::image_length))]
     pub fn size(&self) -> u64
-        ensures { result ≡ length (image_text self.now) }
+        ensures value { result ≡ length (image_text self.now) }
+        ensures small { result ≤ 2 ^ 62 }
     {
         self.image_size()
     }

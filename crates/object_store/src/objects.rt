@@ -1,4 +1,4 @@
-ghost use Rattle.std.specs.Prelude.{◌≡◌, ◌<◌, ◌^◌, IfOk, OnOk, OnErr};
+ghost use Rattle.std.specs.Prelude.{◌≡◌, ◌<◌, ◌≤◌, ◌^◌, IfOk, OnOk, OnErr};
 ghost use Rattle.std.specs.Option.{option_map};
 ghost use Rattle.std.specs.FinMap as map;
 ghost use Rattle.object_store.specs.Objects.{Object, first_objects};
@@ -31,6 +31,20 @@ impl Model for Objects {
     ghost view = { λ o. from_entries o.inner.entries };
 
     ghost invariant = { λ o. AreStored (from_entries o.inner.entries) o.size };
+}
+
+/// The longest image.
+const LONGEST: u64 = 1 << 62;
+
+/// A size that isn't above the longest.
+fn within(size: u64) -> Result<u64, Memory>
+    ensures { IfOk result (λ s. (s ≡ size) × (s ≤ 2 ^ 62)) }
+{
+    if size <= LONGEST {
+        Ok(size)
+    } else {
+        Err(Memory)
+    }
 }
 
 impl Objects {
@@ -90,7 +104,8 @@ impl Objects {
         ensures ok { OnOk result (self.new ≡ map.insert self.old fid object) }
         ensures err { OnErr result (self.new ≡ self.old) }
     {
-        let size = self.size_with(fid, object.size())?;
+        let sum = self.size_with(fid, object.size())?;
+        let size = within(sum)?;
         self.inner.insert(fid, object)?;
         self.size = size;
         Ok(())
@@ -112,7 +127,8 @@ impl Objects {
 
     /// The length of their image.
     pub(crate) fn image_size(&self) -> u64
-        ensures { result ≡ image_size self.now }
+        ensures value { result ≡ image_size self.now }
+        ensures small { result ≤ 2 ^ 62 }
     {
         self.size
     }

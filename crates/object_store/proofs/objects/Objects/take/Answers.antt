@@ -27,7 +27,7 @@ invariant_of-self c =
     let weight = ap (weight_at size_at c.args.fid) there in
     let was = c.size.ensures in
     subst (λ (m : ObjectMap). AreStored m (c.self.inside.size - c.size.result)) (sym (taken fid_cmp fids_total exact_fids c.self.inside.inner.entries c.remove.new.self.entries c.args.fid c.remove.ensures.updates.0))
-    (record { few = omega (arith, few, fewer); exact = omega (arith, exact, less, weight, was) })
+    (record { few = omega (arith, few, fewer); small = omega (arith, c.self.invariant.small); exact = omega (arith, exact, less, weight, was) })
 
 pub returns-in-Some-clause-value : goal.returns-in-Some-clause-value
 returns-in-Some-clause-value c = sym c.in-Some.is ∙ c.remove.ensures.value ∙ sym (got fid_cmp fids_total c.self.inside.inner.entries c.args.fid) ∙ ap (λ (m : ObjectMap). get m c.args.fid) c.self.view_is

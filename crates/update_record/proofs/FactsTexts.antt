@@ -17,7 +17,7 @@ use Rattle.update_record.specs.declared.message.Facts.{Facts}
 use Rattle.update_record.specs.Messages.{writer_number, writer_targets, FitsWriter, facts_text, FitsFacts}
 use Rattle.update_record.specs.MessageReading.{is_target_set, at_targets, at_writer, at_clock, whole_facts}
 
-number_small : (w : Option (ℕ × ℕ)) → FitsWriter w → writer_number w < 2 ^ 32
+pub number_small : (w : Option (ℕ × ℕ)) → FitsWriter w → writer_number w < 2 ^ 32
 number_small None h = lit< tt
 number_small (Some w) h = h.1
 

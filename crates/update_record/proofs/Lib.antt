@@ -7,6 +7,7 @@ pub mod PartLaws
 pub mod Heads
 pub mod Questions
 pub mod FactsTexts
+pub mod FactsValues
 pub mod MessageLaws
 pub mod MessageReasons
 pub mod Placed

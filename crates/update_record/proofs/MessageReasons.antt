@@ -82,6 +82,9 @@ facts_only =
     let clock = number_only is_update_reason w64 reason.BadValue (λ _. true) (λ _. at_writer) refl (λ _. writer) in
     number_only is_update_reason w64 reason.BadValue (λ _. true) (λ _. at_clock) refl (λ _. clock)
 
+pub facts_reason : (bytes : List ℕ) (r : Refusal) → judge 24600 whole_facts 0 bytes ≡ verdict.Refused r → is_update_reason r.reason ≡ true
+facts_reason bytes r e = named_reason is_update_reason 24600 whole_facts 0 bytes r refl facts_only e
+
 reason_of : (r s : Refusal) → verdict.Refused r ≡ verdict.Refused s → r.reason ≡ s.reason
 reason_of r s e = cc
 

@@ -1,5 +1,5 @@
 -- What the parts of a record that fits are.
-use Rattle.std.proofs.Common.{◌≡◌, ℕ, ◌+◌, ◌≤◌, ◌<◌, Bool, true, false, ◌==◌, ◌||◌, ◌⊎◌, if◌then◌else◌, not, List, [], ◌∷◌, length, Some, None, refl, sym, ap, ◌∙◌, arith, length-append, inl, inr}
+use Rattle.std.proofs.Common.{◌≡◌, ℕ, ◌+◌, ◌≤◌, ◌<◌, Bool, true, false, ◌==◌, ◌||◌, ◌⊎◌, if◌then◌else◌, not, List, [], ◌∷◌, length, Option, Some, None, IfSome, refl, sym, ap, ◌∙◌, arith, length-append, inl, inr}
 use Rattle.std.specs.Prelude.{nat_le}
 use Rattle.std.specs.List.{AllByRecursion}
 use Rattle.std.proofs.lemmas.Bool.{eqb-true, eq-eqb, le-leb}
@@ -10,7 +10,7 @@ use Rattle.fid_space.proofs.Members.{member_joined}
 use Rattle.out_update.specs.declared.update.Update.{Update}
 use Rattle.out_update.specs.Types.{is_read}
 use Rattle.out_update.specs.Spelling.{FitsUpdateOf, FitsRequest}
-use Rattle.update_record.specs.Spelling.{part_text, parts_text, has_target, targets_from, FitsParts}
+use Rattle.update_record.specs.Spelling.{part_text, parts_text, has_target, part_for, targets_from, FitsParts}
 use Rattle.update_record.proofs.Records.{or_cases}
 use Rattle.update_record.proofs.RecordValues.{length-part}
 
@@ -89,3 +89,11 @@ requests_fit b least (part ∷ parts) le h size =
     let len = ap length (flat_map-cons part_text part parts) ∙ length-append (part_text part) (parts_text parts) in
     let one = length-part part in
     (record { count = h.0.count; each = unowned b part.1 le h.0.each; size = omega arith }, requests_fit b (part.0 + 1) parts le h.1 (omega arith))
+
+part_by : (b : Bool) (us : List Update) (o : Option (List Update)) → FitsRequest us → IfSome o FitsRequest → IfSome (if b then Some us else o) FitsRequest
+part_by true us o h k = h
+part_by false us o h k = k
+
+pub part_fits : (t : ℕ) (parts : List (ℕ × List Update)) → AllByRecursion (λ part. FitsRequest part.1) parts → IfSome (part_for t parts) FitsRequest
+part_fits t [] h = tt
+part_fits t (part ∷ parts) h = part_by (part.0 == t) part.1 (part_for t parts) h.0 (part_fits t parts h.1)

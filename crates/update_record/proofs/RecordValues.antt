@@ -4,6 +4,7 @@ use Rattle.std.specs.Int.{w32, w64}
 use Rattle.std.proofs.lemmas.Bool.{lt-ltb}
 use Rattle.std.proofs.lemmas.List.Concat.{flat_map-cons}
 use Rattle.tree_model.specs.declared.errno.Errno.{Errno}
+use Rattle.tree_model.specs.Errnos.{errno_code}
 use Rattle.tree_model.specs.declared.errno.Errno.TheVariants.{EPERM}
 use Rattle.tree_model.specs.declared.reply.Reply.{Reply}
 use Rattle.tree_model.specs.declared.reply.Reply.TheVariants as replies
@@ -15,7 +16,7 @@ use Rattle.out_update.specs.declared.update.Update.{Update}
 use Rattle.out_update.specs.Spelling.{request_text}
 use Rattle.out_update.proofs.RequestValues.{request_found}
 use Rattle.update_record.specs.declared.operation.Record.{Record}
-use Rattle.update_record.specs.Spelling.{errno_code, reply_code, is_answer, part_text, parts_text, record_magic, record_text, FitsPart, FitsParts, FitsRecord}
+use Rattle.update_record.specs.Spelling.{reply_code, is_answer, part_text, parts_text, record_magic, record_text, FitsPart, FitsParts, FitsRecord}
 use Rattle.update_record.specs.Values.{answer_at, small_at, part_value, record_at, record_value}
 use Rattle.update_record.proofs.Records.{answer_small, length-record}
 
@@ -24,7 +25,7 @@ unfolding answer_at
 errno_again EPERM = refl
 errno_again _ = refl
 
-answer_again : (r : Reply) → is_answer r ≡ true → answer_at (reply_code r) ≡ Some r
+pub answer_again : (r : Reply) → is_answer r ≡ true → answer_at (reply_code r) ≡ Some r
 unfolding answer_at
 answer_again replies.Ok h = refl
 answer_again (replies.Err e) h = errno_again e

@@ -7,6 +7,7 @@ use Rattle.std.proofs.lemmas.Bool.{eqb-true, eq-eqb, leb-true, le-leb}
 use Rattle.std.proofs.lemmas.List.{nil_from_length, append-nil}
 use Rattle.std.proofs.lemmas.List.Concat.{flat_map-cons}
 use Rattle.tree_model.specs.declared.errno.Errno.{Errno}
+use Rattle.tree_model.specs.Errnos.{errno_code}
 use Rattle.tree_model.specs.declared.errno.Errno.TheVariants.{EPERM}
 use Rattle.tree_model.specs.declared.reply.Reply.{Reply}
 use Rattle.tree_model.specs.declared.reply.Reply.TheVariants as replies
@@ -25,7 +26,7 @@ use Rattle.out_update.specs.Reading.{request_then}
 use Rattle.out_update.specs.Replies.{is_code, one_of}
 use Rattle.out_update.proofs.Requests.{inner_leads, inner_takes}
 use Rattle.update_record.specs.declared.operation.Record.{Record}
-use Rattle.update_record.specs.Spelling.{errno_code, reply_code, is_answer, part_text, parts_text, record_magic, record_text, has_target, FitsPart, FitsParts, FitsRecord}
+use Rattle.update_record.specs.Spelling.{reply_code, is_answer, part_text, parts_text, record_magic, record_text, has_target, FitsPart, FitsParts, FitsRecord}
 use Rattle.update_record.specs.Reading.{at_end, length_was, at_length, at_parts, at_count, at_code, at_client, at_stamp, at_batch, at_number, at_master, at_epoch, whole_record}
 use Rattle.update_record.specs.Values.{answers}
 

@@ -6,6 +6,7 @@ pub mod Begins
 pub mod Decoding
 pub mod Messages
 pub mod MessageValues
+pub mod FactsValues
 pub mod MessageReading
 pub mod MessagePositions
 pub mod MessageBegins

@@ -93,6 +93,10 @@ at_clock = number w64 BadValue (λ _. true) (λ _. at_writer)
 unfoldable pub whole_facts : Grammar
 whole_facts = number w64 BadValue (λ _. true) (λ _. at_clock)
 
+-- the verdict on the bytes of facts; their reply may have 24,576 bytes
+abbrev pub judge_facts : List ℕ → Verdict
+judge_facts bytes = judge 24600 whole_facts 0 bytes
+
 -- ---- the whole message
 
 -- The verdict on a body is counted from the message's start. Its length is judged behind it, and stands at

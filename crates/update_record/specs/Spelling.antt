@@ -3,29 +3,13 @@ use Rattle.std.specs.Prelude.{◌≡◌, ℕ, ◌+◌, ◌^◌, ◌<◌, ◌≤�
 use Rattle.std.specs.List.{flat_map, AllByRecursion}
 use Rattle.std.specs.Int.{w32, w64}
 use Rattle.fid_space.specs.Targets.{joined}
-use Rattle.tree_model.specs.declared.errno.Errno.{Errno}
-use Rattle.tree_model.specs.declared.errno.Errno.TheVariants.{EPERM, ENOENT, EEXIST, ENOTDIR, EISDIR, EINVAL, EFBIG, ENOSPC, EMLINK, ENOTEMPTY, ELOOP, ENODATA}
+use Rattle.tree_model.specs.Errnos.{errno_code}
 use Rattle.tree_model.specs.declared.reply.Reply.{Reply}
 use Rattle.tree_model.specs.declared.reply.Reply.TheVariants as replies
 use Rattle.byte_grammar.specs.Numbers.{word, zeros}
 use Rattle.out_update.specs.declared.update.Update.{Update}
 use Rattle.out_update.specs.Spelling.{request_text, FitsUpdateOf}
 use Rattle.update_record.specs.declared.operation.Record.{Record}
-
--- the number of an error in Linux
-abbrev pub errno_code : Errno → ℕ
-errno_code EPERM = 1
-errno_code ENOENT = 2
-errno_code EEXIST = 17
-errno_code ENOTDIR = 20
-errno_code EISDIR = 21
-errno_code EINVAL = 22
-errno_code EFBIG = 27
-errno_code ENOSPC = 28
-errno_code EMLINK = 31
-errno_code ENOTEMPTY = 39
-errno_code ELOOP = 40
-errno_code ENODATA = 61
 
 -- an accepted operation is answered `Ok` or an error, and this is its code
 abbrev pub is_answer : Reply → Bool

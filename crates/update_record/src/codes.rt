@@ -1,6 +1,6 @@
 ghost use Rattle.std.specs.Prelude.{◌≡◌};
 ghost use Rattle.out_update.specs.Replies.{is_code};
-ghost use Rattle.update_record.specs.Spelling.{errno_code, reply_code};
+ghost use Rattle.update_record.specs.Spelling.{reply_code};
 ghost use Rattle.update_record.specs.Values.{answer_at};
 
 use tree_model::{Errno, Reply};
@@ -38,31 +38,12 @@ pub fn answer_with(code: u32) -> Option<Reply>
     }
 }
 
-fn number_of_errno(errno: Errno) -> u32
-    ensures { result ≡ errno_code errno }
-{
-    match errno {
-        Errno::EPERM => 1,
-        Errno::ENOENT => 2,
-        Errno::EEXIST => 17,
-        Errno::ENOTDIR => 20,
-        Errno::EISDIR => 21,
-        Errno::EINVAL => 22,
-        Errno::EFBIG => 27,
-        Errno::ENOSPC => 28,
-        Errno::EMLINK => 31,
-        Errno::ENOTEMPTY => 39,
-        Errno::ELOOP => 40,
-        Errno::ENODATA => 61,
-    }
-}
-
 /// The code of an answer.
 pub fn code_of_answer(reply: &Reply) -> u32
     ensures { result ≡ reply_code reply.now }
 {
     match reply {
-        Reply::Err(errno) => number_of_errno(*errno),
+        Reply::Err(errno) => errno.code(),
         _ => 0,
     }
 }

@@ -3,7 +3,9 @@ ghost use Rattle.byte_grammar.specs.Steps.{width_at, next_at, StepsTo};
 ghost use Rattle.update_record.specs.MessageReading.{is_target_set};
 ghost use Rattle.update_record.specs.MessagePositions.{at_facts, facts_rank};
 
-use byte_grammar::{Position, Reason, Refusal, number32};
+use crate::held::facts_of;
+use crate::message::Facts;
+use byte_grammar::{BuildFault, Position, Reason, Refusal, number32};
 use out_update::reply::{self, ReplyPosition};
 use std::alloc::{AllocError as Memory, Global};
 
@@ -69,13 +71,13 @@ fn read_field(position: FactsPosition, place: usize, bytes: &[u8]) -> Result<Fac
     }
 }
 
-// Only the verdict is asked for: nothing is built.
 impl Position for FactsPosition {
+    ghost use Rattle.update_record.specs.Messages.{spells_facts};
     ghost use Rattle.update_record.specs.MessageReading.{whole_facts};
     ghost use Rattle.update_record.specs.MessagePositions.{at_facts, facts_rank};
     ghost use Rattle.update_record.specs.MessageBegins.{facts_begins};
 
-    type Value = ();
+    type Value = Facts;
 
     const LIMIT: usize = 24_600;
 
@@ -85,7 +87,7 @@ impl Position for FactsPosition {
 
     ghost whole = { whole_facts };
 
-    ghost spells = { λ _ _. Unit {0} };
+    ghost spells = { spells_facts };
 
     ghost rank = { facts_rank };
 
@@ -101,8 +103,12 @@ impl Position for FactsPosition {
         read_field(self, place, bytes)
     }
 
-    fn build(_alloc: Global, _bytes: &[u8]) -> Result<(), Memory> {
-        Ok(())
+    fn build(alloc: Global, bytes: &[u8]) -> Result<Facts, Memory> {
+        match facts_of(alloc, bytes) {
+            Ok((value, _)) => Ok(value),
+            Err(BuildFault::Memory) => Err(Memory),
+            Err(BuildFault::Short) => unreachable!(),
+        }
     }
 
     ghost begins = { facts_begins };

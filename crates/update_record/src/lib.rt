@@ -13,6 +13,7 @@ mod encoding;
 mod facts;
 mod fault;
 mod head;
+mod held;
 mod kinds;
 mod laws;
 mod message;
@@ -22,10 +23,13 @@ mod post;
 mod question;
 mod value;
 
+pub use codes::{answer_with, code_of_answer, is_answer_code};
 pub use fault::RecordFault;
 pub use laws::{
-    one_spelling_per_message, one_spelling_per_record, verdicts_are_of_spelled_messages,
-    verdicts_are_of_spelled_records,
+    a_message_is_read_back, a_record_is_read_back, answers_are_read_back, facts_are_read_back,
+    one_spelling_per_facts, one_spelling_per_message, one_spelling_per_record,
+    targets_are_those_of_the_parts, verdicts_are_of_spelled_facts,
+    verdicts_are_of_spelled_messages, verdicts_are_of_spelled_records,
 };
 pub use message::{Attempt, Facts, Message, MessageKind, Messages};
 pub use operation::{OpId, Record};

@@ -1,6 +1,7 @@
-ghost use Rattle.std.specs.Prelude.{◌≡◌, ◌<◌, ℕ, All};
+ghost use Rattle.std.specs.Prelude.{◌≡◌, ◌<◌, ℕ, All, IfSome};
 ghost use Rattle.std.specs.Option.{option_copied};
 ghost use Rattle.fid_space.specs.Targets.{is_member};
+ghost use Rattle.out_update.specs.Spelling.{FitsRequest};
 ghost use Rattle.update_record.specs.Spelling.{FitsRecord, has_target, part_for, targets_from};
 
 use fid_space::Targets;
@@ -69,7 +70,9 @@ impl Record {
 
     /// Lends the updates of a target, or `None` where it takes no part.
     pub fn part_of(&self, target: u8) -> Option<&UpdateRequest>
-        ensures { option_copied result ≡ part_for target self.now.parts }
+        ensures value { option_copied result ≡ part_for target self.now.parts }
+        // A part of a record that has a spelling is a request that has one.
+        ensures fits { FitsRecord self.now → IfSome (option_copied result) FitsRequest }
     {
         updates_for(self.parts.items(), target)
     }

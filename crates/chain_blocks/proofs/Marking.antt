@@ -1,13 +1,13 @@
 -- Marks of a walk, and what the walk answers.
-use Rattle.std.proofs.Common.{◌≡◌, ◌≢◌, ◌⊎◌, inl, inr, ⊎_elim, ◌<◌, ◌≤◌, ◌+◌, ◌-◌, ℕ, zero, suc, List, [], ◌∷◌, ◌++◌, Bool, true, false, Option, Some, None, length, get_or, set, drop, eqb, ltb, cond, refl, sym, ◌∙◌, ap, subst, arith, append_assoc, append-nil, length-append, get_or-set_same, get_or-set_other}
+use Rattle.std.proofs.Common.{◌≡◌, ◌≢◌, ⊎_elim, ◌<◌, ◌≤◌, ◌+◌, ℕ, zero, suc, List, [], ◌∷◌, ◌++◌, Option, Some, None, length, get_or, set, drop, eqb, ltb, cond, refl, sym, ◌∙◌, ap, subst, arith, append_assoc, append-nil, length-append, get_or-set_same, get_or-set_other}
 use Rattle.std.specs.Prelude.{Result, Ok, Err}
 use Rattle.std.proofs.lemmas.List.{length-set, get_or_past, get_or_default}
 use Rattle.std.proofs.lemmas.Bool.{cases_eq, cond-true, cond-false, eq-eqb, ne_eqb, lt-ltb, le-ltb}
-use Rattle.chain_blocks.specs.Chains.{Linked, IsTrail, IsChain, AreChains, Holds, times, joined, last_link}
-use Rattle.chain_blocks.specs.Walk.{Judged, met, unless, walk, walk_heads, first_lost, judged, then_ok, behind, unless_lost}
-use Rattle.chain_blocks.specs.Marks.{Marked, Meets, Chained, Headed, IsJudged, unmarked}
+use Rattle.chain_blocks.specs.Chains.{IsTrail, IsChain, AreChains, Holds, times, joined, last_link}
+use Rattle.chain_blocks.specs.Walk.{met, unless, walk, walk_heads, first_lost, judged, then_ok, behind, unless_lost}
+use Rattle.chain_blocks.specs.Marks.{Marked, Chained, Headed, unmarked}
 use Rattle.chain_blocks.specs.declared.blocks.ChainFault.{ChainFault}
-use Rattle.chain_blocks.specs.declared.blocks.ChainFault.TheVariants.{OutOfRange, Loop, Shared, Lost}
+use Rattle.chain_blocks.specs.declared.blocks.ChainFault.TheVariants.{OutOfRange, Loop, Shared}
 use Rattle.chain_blocks.proofs.Counting.{times-append, times_here, times_there, joined-append}
 
 pub unmarked_set : (ms : List ℕ) (i m : ℕ) → i < length ms → get_or ms i 0 ≡ 0 → m ≢ 0 → unmarked (set ms i m) + 1 ≡ unmarked ms

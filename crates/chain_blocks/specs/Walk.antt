@@ -1,5 +1,5 @@
 -- The walk along links that tells whether they are those of chains, and the first fault that it meets.
-use Rattle.std.specs.Prelude.{◌≡◌, ◌+◌, ◌==◌, nat_lt, not, ℕ, zero, suc, List, [], ◌∷◌, ◌++◌, Option, Some, None, if◌then◌else◌, length, slice_index_or, Result, Ok, Err}
+use Rattle.std.specs.Prelude.{◌+◌, ◌==◌, nat_lt, ℕ, zero, suc, List, [], ◌∷◌, ◌++◌, Option, Some, None, if◌then◌else◌, length, slice_index_or, Result, Ok, Err}
 use Rattle.chain_blocks.specs.Chains.{last_link, times, joined}
 use Rattle.chain_blocks.specs.declared.blocks.ChainFault.{ChainFault}
 use Rattle.chain_blocks.specs.declared.blocks.ChainFault.TheVariants.{OutOfRange, Loop, Shared, Lost}

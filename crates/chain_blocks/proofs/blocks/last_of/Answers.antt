@@ -1,5 +1,5 @@
-use Rattle.std.specs.Prelude.{◌<◌, ◌≤◌, ◌+◌, ◌∷◌, length}
-use Rattle.std.proofs.Common.{◌≡◌, ◌≢◌, ◌∙◌, sym, subst, arith, get_or}
+use Rattle.std.specs.Prelude.{◌<◌, ◌+◌, ◌∷◌, length}
+use Rattle.std.proofs.Common.{◌≡◌, ◌∙◌, sym, subst, arith}
 use Rattle.std.proofs.lemmas.List.{get_or_read}
 use Rattle.chain_blocks.specs.Chains.{last_link}
 use Rattle.chain_blocks.proofs.Trails.{Reaches, last_next, last_end}

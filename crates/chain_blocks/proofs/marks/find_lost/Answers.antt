@@ -1,6 +1,5 @@
 use Rattle.std.specs.Prelude.{◌<◌, length}
-use Rattle.std.proofs.Common.{◌≡◌, ◌∙◌, get_or, refl, sym, arith}
-use Rattle.chain_blocks.specs.Chains.{times}
+use Rattle.std.proofs.Common.{◌∙◌, refl, sym, arith}
 use Rattle.chain_blocks.proofs.Marking.{lost_at, lost_none, read_at}
 use Rattle.chain_blocks.proofs.marks.find_lost.Goals as goal
 

@@ -1,5 +1,4 @@
-use Rattle.std.specs.Prelude.{length}
-use Rattle.std.proofs.Common.{◌≡◌, ◌∙◌, refl, sym, arith}
+use Rattle.std.proofs.Common.{◌∙◌, refl, arith}
 use Rattle.std.proofs.lemmas.List.{get_or_default}
 use Rattle.chain_blocks.specs.Chains.{last_link}
 use Rattle.chain_blocks.proofs.Marking.{unmarked_most, walking_first, walking_next, walking_fault, walking_end}

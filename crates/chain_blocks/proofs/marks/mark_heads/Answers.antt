@@ -1,5 +1,5 @@
-use Rattle.std.specs.Prelude.{◌<◌, length}
-use Rattle.std.proofs.Common.{◌≡◌, ◌∙◌, get_or, refl, sym, subst, arith}
+use Rattle.std.specs.Prelude.{length}
+use Rattle.std.proofs.Common.{◌≡◌, ◌∙◌, refl, subst, arith}
 use Rattle.chain_blocks.specs.Chains.{joined}
 use Rattle.chain_blocks.proofs.Marking.{Heading, heading_first, heading_out, heading_fault, heading_next, heading_end}
 use Rattle.chain_blocks.proofs.marks.mark_heads.Goals as goal

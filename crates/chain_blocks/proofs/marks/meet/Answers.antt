@@ -1,5 +1,5 @@
 use Rattle.std.specs.Prelude.{◌<◌, length}
-use Rattle.std.proofs.Common.{◌≡◌, ◌∙◌, get_or, sym, arith}
+use Rattle.std.proofs.Common.{◌∙◌, sym, arith}
 use Rattle.chain_blocks.proofs.Marking.{met_out, met_loop, met_shared, met_new, marked_more, unmarked_set, read_at}
 use Rattle.chain_blocks.proofs.marks.meet.Goals as goal
 

@@ -1,7 +1,7 @@
-use Rattle.std.specs.Prelude.{◌<◌, length, ◌++◌, Some, None, Err}
-use Rattle.std.proofs.Common.{◌≡◌, ◌∙◌, inr, ap, refl, sym, subst, arith}
+use Rattle.std.specs.Prelude.{length, ◌++◌, Some, None, Err}
+use Rattle.std.proofs.Common.{◌≡◌, ◌∙◌, inr, ap, refl, sym, subst}
 use Rattle.chain_blocks.specs.Chains.{joined, Holds}
-use Rattle.chain_blocks.specs.Walk.{first_lost, judged}
+use Rattle.chain_blocks.specs.Walk.{first_lost}
 use Rattle.chain_blocks.specs.declared.blocks.ChainFault.{ChainFault}
 use Rattle.chain_blocks.proofs.Marking.{judged_heads, judged_free, judged_lost, marks_zero, marks_one, holds_from}
 use Rattle.chain_blocks.proofs.blocks.Blocks.from_links.Goals as goal

@@ -1,5 +1,5 @@
 use Rattle.std.specs.Prelude.{[]}
-use Rattle.std.proofs.Common.{arith, sym, ◌∙◌}
+use Rattle.std.proofs.Common.{arith, sym}
 use Rattle.chain_blocks.specs.Chains.{numbers}
 use Rattle.chain_blocks.proofs.Trails.{holds_new, length-numbers}
 use Rattle.chain_blocks.proofs.blocks.Blocks.new.Goals as goal

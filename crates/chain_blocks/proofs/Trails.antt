@@ -268,3 +268,27 @@ last_next links head last next count (behind, trail, short) reaches ne is =
 pub last_end : (links : List ℕ) (head last next count : ℕ) → length links ≤ last_link → ((behind : List ℕ) → IsTrail links head (head ∷ behind) → Reaches links (head ∷ behind) last count) → next ≡ last_link → next ≡ get_or links last last_link
     → (behind : List ℕ) → IsTrail links head (head ∷ behind) → (before : List ℕ) × (head ∷ behind ≡ before ++ last ∷ []) × (length (head ∷ behind) ≡ count)
 last_end links head last next count few reaches end is behind trail = reaches_end links (head ∷ behind) last count few (reaches behind trail) (sym is ∙ end)
+
+-- two chains in the other order
+pub holds_swap : (blocks : Linked) (free c d : List ℕ) (chains : List (List ℕ)) → Holds blocks free (c ∷ (d ∷ chains)) → Holds blocks free (d ∷ (c ∷ chains))
+holds_swap blocks free c d chains h =
+    let stand = h.chains_stand in
+    let size = h.size in
+    let old : (k : ℕ) → times k (joined (c ∷ (d ∷ chains))) ≡ times k c + (times k d + times k (joined chains)) = λ k. times-append k c (d ++ joined chains) ∙ ap (λ (n : ℕ). times k c + n) (times-append k d (joined chains)) in
+    let new : (k : ℕ) → times k (joined (d ∷ (c ∷ chains))) ≡ times k d + (times k c + times k (joined chains)) = λ k. times-append k d (c ++ joined chains) ∙ ap (λ (n : ℕ). times k d + n) (times-append k c (joined chains)) in
+    record {
+      few = h.few;
+      free_trail = h.free_trail;
+      chains_stand = (stand.1.0, (stand.0, stand.1.1));
+      size = omega (arith, length-append c (d ++ joined chains), length-append d (joined chains), length-append d (c ++ joined chains), length-append c (joined chains));
+      inside = λ k lt. let was = h.inside k lt in omega (arith, old k, new k);
+      outside = λ k le. let was = h.outside k le in omega (arith, old k, new k);
+    }
+
+-- the first of two blocks that were taken is a head
+pub taken_two : {E F : Type 0} (one two three : Linked) (r : Result ℕ E) (q : Result ℕ F) (x y a b : ℕ) (free : List ℕ) → Holds one (a ∷ (b ∷ free)) [] → r ≡ Ok x → ((free : List ℕ) → (chains : List (List ℕ)) → Holds one free chains → Takes one two r free chains) → q ≡ Ok y → ((free : List ℕ) → (chains : List (List ℕ)) → Holds two free chains → Takes two three q free chains) → IsHead three x
+taken_two {E} {F} one two three r q x y a b free holds first takes second also =
+    let t : Takes {E = E} one two (Ok x) (a ∷ (b ∷ free)) [] = subst (λ (p : Result ℕ E). Takes one two p (a ∷ (b ∷ free)) []) first (takes (a ∷ (b ∷ free)) [] holds) in
+    let mid : Holds two (b ∷ free) ((x ∷ []) ∷ []) = subst (λ (j : ℕ). Holds two (b ∷ free) ((j ∷ []) ∷ [])) (sym t.0) t.1 in
+    let u : Takes {E = F} two three (Ok y) (b ∷ free) ((x ∷ []) ∷ []) = subst (λ (p : Result ℕ F). Takes two three p (b ∷ free) ((x ∷ []) ∷ [])) second (also (b ∷ free) ((x ∷ []) ∷ []) mid) in
+    (free, [], (b ∷ []) ∷ [], holds_swap three free (b ∷ []) (x ∷ []) [] u.1)

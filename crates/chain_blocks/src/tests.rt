@@ -1,20 +1,38 @@
 use crate::{Blocks, ChainFault, Full};
+use std::alloc::Global;
 use std::test::Fail;
 
 const END: u32 = 0xffff_ffff;
 
+/// Three blocks: two are taken, the first is given back, and all are taken.
+fn taken_again(alloc: Global) -> Option<[Result<u32, Full>; 5]> {
+    let Ok(mut blocks) = Blocks::new(alloc, 3) else {
+        return None;
+    };
+    let Ok(first) = blocks.take() else {
+        return None;
+    };
+    let Ok(second) = blocks.take() else {
+        return None;
+    };
+    blocks.give(first);
+    let again = blocks.take();
+    Some([Ok(first), Ok(second), again, blocks.take(), blocks.take()])
+}
+
 #[test]
-fn taken_and_given(rt: HostRuntime) -> Result<(), Fail> {
-    let mut blocks = Blocks::new(rt.alloc(), 3)?;
-    assert_eq!(rt; blocks.take(), Ok(0));
-    assert_eq!(rt; blocks.take(), Ok(1));
-    blocks.give(0);
-    assert_eq!(rt; blocks.take(), Ok(0));
-    assert_eq!(rt; blocks.take(), Ok(2));
-    assert_eq!(rt; blocks.take(), Err(Full));
-    assert_eq!(rt; blocks.free(), END);
-    assert_eq!(rt; blocks.link(2), Some(END));
-    assert_eq!(rt; blocks.link(3), None);
+fn taken_and_given(rt: HostRuntime) {
+    let want = [Ok(0), Ok(1), Ok(0), Ok(2), Err(Full)];
+    assert_eq!(rt; taken_again(rt.alloc()), Some(want));
+}
+
+#[test]
+fn first_links(rt: HostRuntime) -> Result<(), Fail> {
+    let blocks = Blocks::new(rt.alloc(), 2)?;
+    assert_eq!(rt; blocks.free(), 0);
+    assert_eq!(rt; blocks.link(0), Some(1));
+    assert_eq!(rt; blocks.link(1), Some(END));
+    assert_eq!(rt; blocks.link(2), None);
     Ok(())
 }
 

@@ -5,3 +5,4 @@ pub mod Runs
 pub mod MachineLaws
 pub mod Worked
 pub mod OneLine
+mod Restored

@@ -18,7 +18,9 @@ use Rattle.tree_model.specs.Tree.{Tree, Names, base, names_of, named, root_fid, 
 use Rattle.tree_model.specs.Changes.{changed_all, with_names}
 use Rattle.tree_model.specs.Step.{step, first_fault, client_fault, layout_fault, parent_fault, taken_fault, create_fault, checked, op_changes}
 use Rattle.tree_model.specs.History.{Item, tree_of}
-use Rattle.tree_model.specs.Participants.{participants}
+use Rattle.tree_model.specs.Keys.{laid_base}
+use Rattle.tree_model.specs.Striped.{on}
+use Rattle.tree_model.proofs.OneTarget.{on_one}
 use Rattle.tree_model.specs.OpText.{IsPlaced}
 use Rattle.tree_model.specs.Names.{IsName}
 use Rattle.tree_model.specs.TreeText.{tree_text, tree_head, entry_count, node_text, entry_text, names_text, xattr_text, xattrs_text}
@@ -163,8 +165,8 @@ file_placed = ((omega arith, omega arith, omega arith), refl)
 name_fits : IsName (codes "a")
 name_fits = (omega arith, omega arith, (omega arith, tt), (((λ e. cc), (λ e. cc)), tt), (λ e. cc), (λ e. cc))
 
-on_home : 1 ≡ participants 1 create replies.Ok
-on_home = refl
+on_home : 1 ≡ on 1 laid_base create
+on_home = sym (on_one laid_base create (root_placed, name_fits, file_placed))
 
 cluster_turn : Turn (start true) cluster_group made
 cluster_turn = (((omega arith, omega arith), refl, refl), inl refl, refl)

@@ -6,7 +6,9 @@ use Rattle.std.specs.List.{AllByRecursion, flat_map}
 use Rattle.tree_model.specs.Tree.{Grown}
 use Rattle.tree_model.specs.Step.{step}
 use Rattle.tree_model.specs.History.{Item, tree_of}
-use Rattle.tree_model.specs.Participants.{home_of, participants}
+use Rattle.tree_model.specs.Participants.{home_of}
+use Rattle.tree_model.specs.Striped as striped
+use Rattle.tree_model.specs.Kept.{laid_of}
 use Rattle.tree_model.specs.declared.op.Request.{Request}
 use Rattle.tree_model.specs.declared.reply.Reply.{Reply}
 use Rattle.scenario_text.specs.Spelling.{Entry, Skip, Order, IsEntry, IsPlayedEntry, line_of}
@@ -173,7 +175,7 @@ IsLatest targets history i =
 abbrev pub numbers_of : List Item → List ℕ
 numbers_of items = map (λ i. i.request.number) items
 
--- A request that was sent is accepted with the tree's reply, on its participants; its reply comes next.
+-- A request that was sent is accepted with the tree's reply, on the targets that it is on; its reply comes next.
 pub record Accepts (old : State) (number : ℕ) (reply : Reply) (on : ℕ) (others : List Line) (new : State) : Type 0 where
   pub request : Request
   pub sent : Among old.asked.sent request
@@ -181,7 +183,7 @@ pub record Accepts (old : State) (number : ℕ) (reply : Reply) (on : ℕ) (othe
   pub serving : old.standing ≡ Serving
   pub fresh : IsNew (targets_of old) old.history request
   pub replied : reply ≡ (step (targets_of old) (tree_of (targets_of old) old.history) request.op).1
-  pub placed : on ≡ participants (targets_of old) request.op reply
+  pub placed : on ≡ striped.on (targets_of old) (laid_of (targets_of old) old.history) request.op
   pub next : NextIs (lines.Reply number reply) others
   pub after : new ≡ record old { history = old.history ++ record { request = request; reply = reply } ∷ []; pend = old.pend ++ number ∷ [] }
 

@@ -1,8 +1,9 @@
-ghost use Rattle.std.specs.Prelude.{◌≡◌, ◌++◌, codes, OnOk};
+ghost use Rattle.std.specs.Prelude.{◌≡◌, ◌++◌, codes, OnOk, OnErr};
+ghost use Rattle.tree_model.specs.TreeText.{tree_text};
 ghost use Rattle.scenario_text.specs.LineText.{accept_text, reply_line_text, line_text, one_text, two_text, stable_text, up_text, standing_word, state_text};
 
-use crate::list::{print_long, print_number, print_numbers, print_targets};
-use fid_space::{Bytes, Numbers, Targets};
+use crate::list::{print_numbers, print_targets};
+use fid_space::{Bytes, Numbers, Targets, print_number};
 use std::alloc::AllocError as Memory;
 use tree_model::{PlainTree, Reply};
 
@@ -80,9 +81,10 @@ pub enum Line {
 }
 
 impl Line {
-    /// Adds the text with its line feed. After want of memory a front of it may have been added.
+    /// Adds the text with its line feed. Want of memory adds nothing.
     pub fn print(&self, out: &mut Bytes) -> Result<(), Memory>
-        ensures { OnOk result (out.new ≡ out.old ++ line_text self.now) }
+        ensures ok { OnOk result (out.new ≡ out.old ++ line_text self.now) }
+        ensures err { OnErr result (out.new ≡ out.old) }
     {
         match self {
             Line::Accept { number, reply, on } => print_accept(*number, reply, *on, out),
@@ -99,7 +101,7 @@ impl Line {
             Line::DamagedGates { target, gates } => print_damaged_gates(*target, *gates, out),
             Line::DamagedImage { target, place } => print_damaged_image(*target, *place, out),
             Line::State { target, standing } => print_state(*target, *standing, out),
-            Line::Tree(tree) => tree.print(out),
+            Line::Tree(tree) => print_tree(tree, out),
             Line::TreeState(target) => print_tree_state(*target, out),
             Line::EndClean => out.append(b"end clean\n"),
             Line::EndUnclean(target) => print_end_unclean(*target, out),
@@ -109,51 +111,51 @@ impl Line {
 
 /// Adds the text of an `accept` line.
 pub fn print_accept(number: u32, reply: &Reply, on: Targets, out: &mut Bytes) -> Result<(), Memory>
-    ensures { OnOk result (out.new ≡ out.old ++ accept_text number reply.now on) }
+    ensures ok { OnOk result (out.new ≡ out.old ++ accept_text number reply.now on) }
+    ensures err { OnErr result (out.new ≡ out.old) }
 {
-    out.append(b"accept ")?;
-    print_number(number, out)?;
-    out.push(b' ')?;
-    reply.print(out)?;
-    out.append(b" on ")?;
-    print_targets(on, out)?;
-    out.push(b'\n')?;
-    Ok(())
+    let mut line = Bytes::new(out.alloc());
+    line.append(b"accept ")?;
+    print_number(u64::from(number), &mut line)?;
+    line.push(b' ')?;
+    reply.print(&mut line)?;
+    line.append(b" on ")?;
+    print_targets(on, &mut line)?;
+    line.push(b'\n')?;
+    out.append(line.bytes())
 }
 
 /// Adds the text of a `reply` line.
 pub fn print_reply(number: u32, reply: &Reply, out: &mut Bytes) -> Result<(), Memory>
-    ensures { OnOk result (out.new ≡ out.old ++ reply_line_text number reply.now) }
+    ensures ok { OnOk result (out.new ≡ out.old ++ reply_line_text number reply.now) }
+    ensures err { OnErr result (out.new ≡ out.old) }
 {
-    out.append(b"reply ")?;
-    print_number(number, out)?;
-    out.push(b' ')?;
-    reply.print(out)?;
-    out.push(b'\n')?;
-    Ok(())
+    let mut line = Bytes::new(out.alloc());
+    line.append(b"reply ")?;
+    print_number(u64::from(number), &mut line)?;
+    line.push(b' ')?;
+    reply.print(&mut line)?;
+    line.push(b'\n')?;
+    out.append(line.bytes())
 }
 
 /// Adds the text of a `stale` line.
 pub fn print_stale(number: u32, last: u32, out: &mut Bytes) -> Result<(), Memory>
-    ensures { OnOk result (out.new ≡ out.old ++ two_text (codes "stale ") number (codes " last ") last) }
+    ensures ok { OnOk result (out.new ≡ out.old ++ two_text (codes "stale ") number (codes " last ") last) }
+    ensures err { OnErr result (out.new ≡ out.old) }
 {
-    print_two(
-        b"stale ",
-        u64::from(number),
-        b" last ",
-        u64::from(last),
-        out,
-    )
+    print_two("stale ", u64::from(number), " last ", u64::from(last), out)
 }
 
 /// Adds the text of a `recovering` line.
 pub fn print_recovering(number: u32, target: u8, out: &mut Bytes) -> Result<(), Memory>
-    ensures { OnOk result (out.new ≡ out.old ++ two_text (codes "recovering ") number (codes " target ") target) }
+    ensures ok { OnOk result (out.new ≡ out.old ++ two_text (codes "recovering ") number (codes " target ") target) }
+    ensures err { OnErr result (out.new ≡ out.old) }
 {
     print_two(
-        b"recovering ",
+        "recovering ",
         u64::from(number),
-        b" target ",
+        " target ",
         u64::from(target),
         out,
     )
@@ -161,45 +163,51 @@ pub fn print_recovering(number: u32, target: u8, out: &mut Bytes) -> Result<(), 
 
 /// Adds the text of a `stable` line.
 pub fn print_stable(target: u8, numbers: &Numbers, out: &mut Bytes) -> Result<(), Memory>
-    ensures { OnOk result (out.new ≡ out.old ++ stable_text target numbers.now) }
+    ensures ok { OnOk result (out.new ≡ out.old ++ stable_text target numbers.now) }
+    ensures err { OnErr result (out.new ≡ out.old) }
 {
-    out.append(b"stable ")?;
-    print_long(u64::from(target), out)?;
-    out.push(b' ')?;
-    print_numbers(numbers, out)?;
-    out.push(b'\n')?;
-    Ok(())
+    let mut line = Bytes::new(out.alloc());
+    line.append(b"stable ")?;
+    print_number(u64::from(target), &mut line)?;
+    line.push(b' ')?;
+    print_numbers(numbers, &mut line)?;
+    line.push(b'\n')?;
+    out.append(line.bytes())
 }
 
 /// Adds the text of a `down` line.
 pub fn print_down(target: u8, out: &mut Bytes) -> Result<(), Memory>
-    ensures { OnOk result (out.new ≡ out.old ++ one_text (codes "down ") target) }
+    ensures ok { OnOk result (out.new ≡ out.old ++ one_text (codes "down ") target) }
+    ensures err { OnErr result (out.new ≡ out.old) }
 {
-    print_one(b"down ", u64::from(target), out)
+    print_one("down ", u64::from(target), out)
 }
 
 /// Adds the text of an `up` line.
 pub fn print_up(target: u8, transno: u64, numbers: &Numbers, out: &mut Bytes) -> Result<(), Memory>
-    ensures { OnOk result (out.new ≡ out.old ++ up_text target transno numbers.now) }
+    ensures ok { OnOk result (out.new ≡ out.old ++ up_text target transno numbers.now) }
+    ensures err { OnErr result (out.new ≡ out.old) }
 {
-    out.append(b"up ")?;
-    print_long(u64::from(target), out)?;
-    out.append(b" transno ")?;
-    print_long(transno, out)?;
-    out.append(b" holds ")?;
-    print_numbers(numbers, out)?;
-    out.push(b'\n')?;
-    Ok(())
+    let mut line = Bytes::new(out.alloc());
+    line.append(b"up ")?;
+    print_number(u64::from(target), &mut line)?;
+    line.append(b" transno ")?;
+    print_number(transno, &mut line)?;
+    line.append(b" holds ")?;
+    print_numbers(numbers, &mut line)?;
+    line.push(b'\n')?;
+    out.append(line.bytes())
 }
 
 /// Adds the text of a `damaged` line that tells the gates.
 pub fn print_damaged_gates(target: u8, gates: u8, out: &mut Bytes) -> Result<(), Memory>
-    ensures { OnOk result (out.new ≡ out.old ++ two_text (codes "damaged ") target (codes " gates ") gates) }
+    ensures ok { OnOk result (out.new ≡ out.old ++ two_text (codes "damaged ") target (codes " gates ") gates) }
+    ensures err { OnErr result (out.new ≡ out.old) }
 {
     print_two(
-        b"damaged ",
+        "damaged ",
         u64::from(target),
-        b" gates ",
+        " gates ",
         u64::from(gates),
         out,
     )
@@ -207,71 +215,77 @@ pub fn print_damaged_gates(target: u8, gates: u8, out: &mut Bytes) -> Result<(),
 
 /// Adds the text of a `damaged` line that tells a place of the image.
 pub fn print_damaged_image(target: u8, place: u64, out: &mut Bytes) -> Result<(), Memory>
-    ensures { OnOk result (out.new ≡ out.old ++ two_text (codes "damaged ") target (codes " image ") place) }
+    ensures ok { OnOk result (out.new ≡ out.old ++ two_text (codes "damaged ") target (codes " image ") place) }
+    ensures err { OnErr result (out.new ≡ out.old) }
 {
-    print_two(b"damaged ", u64::from(target), b" image ", place, out)
+    print_two("damaged ", u64::from(target), " image ", place, out)
 }
 
 /// Adds the text of a `state` line.
 pub fn print_state(target: u8, standing: Standing, out: &mut Bytes) -> Result<(), Memory>
-    ensures { OnOk result (out.new ≡ out.old ++ state_text target standing) }
+    ensures ok { OnOk result (out.new ≡ out.old ++ state_text target standing) }
+    ensures err { OnErr result (out.new ≡ out.old) }
 {
-    out.append(b"state ")?;
-    print_long(u64::from(target), out)?;
-    out.push(b' ')?;
-    out.append(word_of(standing))?;
-    out.push(b'\n')?;
-    Ok(())
+    let word = word_of(standing);
+    let line = format!(in out.alloc(); "state {target} {word}\n")?;
+    out.append(line.as_bytes())
 }
 
 /// Adds the text of a `tree state` line.
 pub fn print_tree_state(target: u8, out: &mut Bytes) -> Result<(), Memory>
-    ensures { OnOk result (out.new ≡ out.old ++ one_text (codes "tree state ") target) }
+    ensures ok { OnOk result (out.new ≡ out.old ++ one_text (codes "tree state ") target) }
+    ensures err { OnErr result (out.new ≡ out.old) }
 {
-    print_one(b"tree state ", u64::from(target), out)
+    print_one("tree state ", u64::from(target), out)
 }
 
 /// Adds the text of an `end unclean target` line.
 pub fn print_end_unclean(target: u8, out: &mut Bytes) -> Result<(), Memory>
-    ensures { OnOk result (out.new ≡ out.old ++ one_text (codes "end unclean target ") target) }
+    ensures ok { OnOk result (out.new ≡ out.old ++ one_text (codes "end unclean target ") target) }
+    ensures err { OnErr result (out.new ≡ out.old) }
 {
-    print_one(b"end unclean target ", u64::from(target), out)
+    print_one("end unclean target ", u64::from(target), out)
 }
 
-fn word_of(standing: Standing) -> &'static [u8]
+fn word_of(standing: Standing) -> &'static str
     ensures { result.now ≡ standing_word standing }
 {
     match standing {
-        Standing::Serving => b"serving",
-        Standing::Opened => b"opened",
-        Standing::Down => b"down",
+        Standing::Serving => "serving",
+        Standing::Opened => "opened",
+        Standing::Down => "down",
+    }
+}
+
+/// Adds a tree's text. Want of memory adds nothing.
+fn print_tree(tree: &PlainTree, out: &mut Bytes) -> Result<(), Memory>
+    ensures ok { OnOk result (out.new ≡ out.old ++ tree_text tree.now.tree) }
+    ensures err { OnErr result (out.new ≡ out.old) }
+{
+    let before = out.len();
+    match tree.print(out) {
+        Ok(()) => Ok(()),
+        Err(memory) => {
+            out.truncate(before);
+            Err(memory)
+        }
     }
 }
 
 /// Adds a word and a number.
-fn print_one(word: &[u8], number: u64, out: &mut Bytes) -> Result<(), Memory>
-    ensures { OnOk result (out.new ≡ out.old ++ one_text word.now number) }
+fn print_one(word: &str, number: u64, out: &mut Bytes) -> Result<(), Memory>
+    ensures ok { OnOk result (out.new ≡ out.old ++ one_text word.now number) }
+    ensures err { OnErr result (out.new ≡ out.old) }
 {
-    out.append(word)?;
-    print_long(number, out)?;
-    out.push(b'\n')?;
-    Ok(())
+    let line = format!(in out.alloc(); "{word}{number}\n")?;
+    out.append(line.as_bytes())
 }
 
 /// Adds a word, a number, another word and another number.
-fn print_two(
-    word: &[u8],
-    number: u64,
-    other: &[u8],
-    last: u64,
-    out: &mut Bytes,
-) -> Result<(), Memory>
-    ensures { OnOk result (out.new ≡ out.old ++ two_text word.now number other.now last) }
+fn print_two(word: &str, number: u64, other: &str, last: u64, out: &mut Bytes) -> Result<(), Memory>
+    ensures ok { OnOk result (out.new ≡ out.old ++ two_text word.now number other.now last) }
+    ensures err { OnErr result (out.new ≡ out.old) }
 {
-    out.append(word)?;
-    print_long(number, out)?;
-    out.append(other)?;
-    print_long(last, out)?;
-    out.push(b'\n')?;
-    Ok(())
+    let line = format!(in out.alloc(); "{word}{number}{other}{last}\n")?;
+    out.append(line.as_bytes())
 }

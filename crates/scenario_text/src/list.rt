@@ -3,24 +3,8 @@ ghost use Rattle.std.specs.Fmt.{decimal};
 ghost use Rattle.std.specs.List.{flat_map};
 ghost use Rattle.scenario_text.specs.LineText.{after_comma, list_text, members, targets_text};
 
-use fid_space::{Bytes, Numbers, Targets};
+use fid_space::{Bytes, Numbers, Targets, print_number};
 use std::alloc::{AllocError as Memory, Global};
-
-/// Adds a number in decimal digits.
-pub fn print_number(number: u32, out: &mut Bytes) -> Result<(), Memory>
-    ensures { OnOk result (out.new ≡ out.old ++ decimal number) }
-{
-    let text = number.to_string(out.alloc())?;
-    out.append(text.as_bytes())
-}
-
-/// Adds a longer number in decimal digits.
-pub fn print_long(number: u64, out: &mut Bytes) -> Result<(), Memory>
-    ensures { OnOk result (out.new ≡ out.old ++ decimal number) }
-{
-    let text = number.to_string(out.alloc())?;
-    out.append(text.as_bytes())
-}
 
 /// Adds the numbers of a list with commas between them, or a dash where there is none.
 pub fn print_numbers(numbers: &Numbers, out: &mut Bytes) -> Result<(), Memory>
@@ -29,7 +13,7 @@ pub fn print_numbers(numbers: &Numbers, out: &mut Bytes) -> Result<(), Memory>
     match numbers.get(0) {
         None => out.append(b"-"),
         Some(first) => {
-            print_number(first, out)?;
+            print_number(u64::from(first), out)?;
             print_after(numbers, out)?;
             Ok(())
         }
@@ -54,7 +38,8 @@ fn print_next(number: u32, out: &mut Bytes) -> Result<(), Memory>
     ensures { OnOk result (out.new ≡ out.old ++ after_comma number) }
 {
     out.push(b',')?;
-    print_number(number, out)
+    print_number(u64::from(number), out)?;
+    Ok(())
 }
 
 /// Adds numbers with commas between them, or a dash where there is none.
@@ -64,7 +49,7 @@ pub fn print_list(numbers: &[u32], out: &mut Bytes) -> Result<(), Memory>
     match numbers {
         [] => out.append(b"-"),
         [first, rest @ ..] => {
-            print_number(*first, out)?;
+            print_number(u64::from(*first), out)?;
             print_rest(rest, out)?;
             Ok(())
         }

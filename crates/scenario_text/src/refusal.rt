@@ -1,5 +1,5 @@
 //! Which lines are skipped or pass a limit, and what is written of a refused one.
-ghost use Rattle.std.specs.Prelude.{◌≡◌, ◌++◌, ◌↔◌, IsTrue, OnOk};
+ghost use Rattle.std.specs.Prelude.{◌≡◌, ◌++◌, ◌↔◌, IsTrue, OnOk, OnErr};
 ghost use Rattle.scenario_text.specs.Spelling.{IsSkipped};
 ghost use Rattle.scenario_text.specs.Refusals.{IsFull, no_end, refusal};
 
@@ -33,20 +33,21 @@ pub fn is_full(count: u64, total: u64, rest: &[u8], byte: u8) -> bool
     count >= MOST_LINES || total >= MOST_BYTES || (byte != b'\n' && rest.len() >= MOST_LINE_BYTES)
 }
 
-/// Adds the refusal of a line. Lines are counted from 1.
+/// Adds the refusal of a line. Lines are counted from 1. Want of memory adds nothing.
 pub fn print_refusal(line: u64, out: &mut Bytes) -> Result<(), Memory>
-    ensures { OnOk result (out.new ≡ out.old ++ refusal line) }
+    ensures ok { OnOk result (out.new ≡ out.old ++ refusal line) }
+    ensures err { OnErr result (out.new ≡ out.old) }
 {
-    let alloc = out.alloc();
-    let text = format!(in alloc; "line {line}: NotYet\n")?;
+    let text = format!(in out.alloc(); "line {line}: NotYet\n")?;
     out.append(text.as_bytes())
 }
 
-/// Adds the line for a scenario that lacks its `end`, with the number after its last line.
+/// Adds the line for a scenario that lacks its `end`, with the number after its last line. Want of
+/// memory adds nothing.
 pub fn print_no_end(line: u64, out: &mut Bytes) -> Result<(), Memory>
-    ensures { OnOk result (out.new ≡ out.old ++ no_end line) }
+    ensures ok { OnOk result (out.new ≡ out.old ++ no_end line) }
+    ensures err { OnErr result (out.new ≡ out.old) }
 {
-    let alloc = out.alloc();
-    let text = format!(in alloc; "line {line}: NoEnd\n")?;
+    let text = format!(in out.alloc(); "line {line}: NoEnd\n")?;
     out.append(text.as_bytes())
 }

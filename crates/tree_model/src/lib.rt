@@ -1,5 +1,6 @@
 //! The plain tree: nodes by their FIDs and entries by directory and name, one operation after another,
-//! with the definitions that every layer above speaks of: tree, step, history, reply, participants.
+//! with the definitions that every layer above speaks of: tree, step, history, reply, and the targets
+//! that an operation is on.
 //!
 //! The layer above may rest on this: `apply` makes the step of the definitions and gives its reply,
 //! and operations, replies and trees have one text each.

@@ -8,6 +8,7 @@
 
 mod calls;
 mod find;
+mod laws;
 mod look;
 mod places;
 mod read;
@@ -16,4 +17,5 @@ mod store;
 #[cfg(test)]
 mod tests;
 
+pub use laws::a_settled_disk_opens_so;
 pub use store::{CommitFault, FormatFault, OpenStoreFault, Store};

@@ -1,0 +1,5 @@
+use Rattle.target_disk.proofs.Knowledge.{settled_opens}
+use Rattle.target_disk.proofs.laws.a_settled_disk_opens_so.Goals as goal
+
+pub returns : goal.returns
+returns c = settled_opens

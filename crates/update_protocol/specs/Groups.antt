@@ -1,0 +1,140 @@
+-- Which lines a command may have, by the standings before it.
+use Rattle.std.specs.Prelude.{List, [], ℕ, suc, ◌++◌, ◌<◌, ◌≤◌, ◌∷◌, ◌≡◌, ◌⊎◌}
+use Rattle.tree_model.specs.declared.op.Request.{Request}
+use Rattle.tree_model.specs.Tree.{Tree}
+use Rattle.update_protocol.specs.Machine.{Standing, Serving, Opened, Down, Line, Accept, Replies, Done, Busy, Stale, Full, Recovering, Ignored, Unsettled, Shared, Stable, Stopped, Up, Stands, Redone, Missing, Recovered, Shows, Tree_stands, Tree_busy, Log, End_clean, End_target, End_request, Listed}
+
+pub data Command : Type 0 where
+  Cluster : (targets : ℕ) → Command
+  Send : (request : Request) → Command
+  Again : (number : ℕ) → Command
+  Deliver : (message : ℕ) → Command
+  Drop : (message : ℕ) → Command
+  Settle : Command
+  Resend : Command
+  Fuse : (target after choice : ℕ) → Command
+  Commit : (target : ℕ) → Command
+  Crash : (target : ℕ) → Command
+  Restart : (target : ℕ) → Command
+  Recover : Command
+  Tree_shown : Command
+  Log_shown : (target : ℕ) → Command
+  End : Command
+
+-- the first target that doesn't serve; the first that is down
+abbrev pub IsLowest : (Standing → Type 0) → (ℕ → Standing) → ℕ → ℕ → Type 0
+IsLowest test standing targets t = (t < targets) × test (standing t) × ((u : ℕ) → u < t → test (standing u) → ⊥)
+
+abbrev pub Fails : Standing → Type 0
+Fails Serving = ⊥
+Fails Opened = Unit {0}
+Fails Down = Unit {0}
+
+abbrev pub IsDown : Standing → Type 0
+IsDown Serving = ⊥
+IsDown Opened = ⊥
+IsDown Down = Unit {0}
+
+-- lines of deliveries: behind each `shared` of a target comes its commit, which is stable or stops, and none comes else
+abbrev pub AreDeliveries : List Line → Type 0
+AreDeliveries [] = Unit {0}
+AreDeliveries (Shared t n m ∷ Stable u ns ∷ more) = (u ≡ t) × AreDeliveries more
+AreDeliveries (Shared t n m ∷ Stopped u ∷ more) = (u ≡ t) × AreDeliveries more
+AreDeliveries (Accept n r on ∷ more) = AreDeliveries more
+AreDeliveries (Replies n r ∷ more) = AreDeliveries more
+AreDeliveries (Done n t ∷ more) = AreDeliveries more
+AreDeliveries (Busy n m ∷ more) = AreDeliveries more
+AreDeliveries (Stale n m ∷ more) = AreDeliveries more
+AreDeliveries (Full n t l k ∷ more) = AreDeliveries more
+AreDeliveries (Recovering n t ∷ more) = AreDeliveries more
+AreDeliveries (Ignored k ∷ more) = AreDeliveries more
+AreDeliveries _ = ⊥
+
+-- `stable` lines of these targets, ascending from one on
+abbrev pub AreStable : (ℕ → Standing) → ℕ → ℕ → List Line → Type 0
+AreStable standing t targets [] = (u : ℕ) → t ≤ u → u < targets → standing u ≡ Serving → ⊥
+AreStable standing t targets (Stable u ns ∷ more) =
+    (t ≤ u) × (u < targets) × (standing u ≡ Serving) × ((v : ℕ) → t ≤ v → v < u → standing v ≡ Serving → ⊥) × AreStable standing (suc u) targets more
+AreStable standing t targets _ = ⊥
+
+-- `redone` lines, ascending from one on
+abbrev pub AreRedone : ℕ → List Line → Type 0
+AreRedone t [] = Unit {0}
+AreRedone t (Redone u ns ∷ more) = (t ≤ u) × AreRedone (suc u) more
+AreRedone t _ = ⊥
+
+abbrev pub IsFront : List Line → List Line → Type 0
+IsFront front whole = (rest : List Line) × (whole ≡ front ++ rest)
+
+-- a whole recovery: what served is committed, what is missing is redone
+abbrev pub AreGathered : (ℕ → Standing) → ℕ → List Line → Type 0
+AreGathered standing targets ls = (stable redone : List Line) × AreStable standing 0 targets stable × AreRedone 0 redone × (ls ≡ stable ++ redone)
+
+abbrev pub IsWhole : (ℕ → Standing) → ℕ → List Line → Type 0
+IsWhole standing targets ls = (steps : List Line) × (epoch : ℕ) × (kept lost : List ℕ) × AreGathered standing targets steps × (ls ≡ steps ++ Recovered epoch kept lost ∷ [])
+
+-- one that a target's stop ends
+abbrev pub IsBroken : (ℕ → Standing) → ℕ → List Line → Type 0
+IsBroken standing targets ls = (steps front : List Line) × (t : ℕ) × AreGathered standing targets steps × IsFront front steps × (ls ≡ front ++ Stopped t ∷ Missing t ∷ [])
+
+abbrev pub RecoverLines : (ℕ → Standing) → ℕ → List Line → Type 0
+RecoverLines standing targets ls =
+    ((t : ℕ) × IsLowest IsDown standing targets t × (ls ≡ Missing t ∷ []))
+    ⊎ (((t : ℕ) → t < targets → IsDown (standing t) → ⊥) × (IsWhole standing targets ls ⊎ IsBroken standing targets ls))
+
+abbrev pub CommitLines : Standing → ℕ → List Line → Type 0
+CommitLines Serving t ls = ((ns : List ℕ) × (ls ≡ Stable t ns ∷ [])) ⊎ (ls ≡ Stopped t ∷ [])
+CommitLines Opened t ls = ls ≡ Stands t Opened ∷ []
+CommitLines Down t ls = ls ≡ Stands t Down ∷ []
+
+abbrev pub CrashLines : Standing → ℕ → List Line → Type 0
+CrashLines Down t ls = ls ≡ Stands t Down ∷ []
+CrashLines Serving t ls = ls ≡ Stopped t ∷ []
+CrashLines Opened t ls = ls ≡ Stopped t ∷ []
+
+abbrev pub RestartLines : Standing → ℕ → List Line → Type 0
+RestartLines Down t ls = ((transno : ℕ) × (ns : List ℕ) × (ls ≡ Up t transno ns ∷ [])) ⊎ (ls ≡ Stopped t ∷ [])
+RestartLines Serving t ls = ls ≡ Stands t Serving ∷ []
+RestartLines Opened t ls = ls ≡ Stands t Opened ∷ []
+
+abbrev pub TreeLines : (ℕ → Standing) → ℕ → List Line → Type 0
+TreeLines standing targets ls =
+    ((t : ℕ) × IsLowest Fails standing targets t × (ls ≡ Tree_stands t ∷ []))
+    ⊎ (((t : ℕ) → t < targets → standing t ≡ Serving) × (((n : ℕ) × (ls ≡ Tree_busy n ∷ [])) ⊎ ((tree : Tree) × (ls ≡ Shows tree ∷ []))))
+
+abbrev pub LogLines : Standing → ℕ → List Line → Type 0
+LogLines Down t ls = ls ≡ Stands t Down ∷ []
+LogLines Serving t ls = (records : List Listed) × (ls ≡ Log t records ∷ [])
+LogLines Opened t ls = (records : List Listed) × (ls ≡ Log t records ∷ [])
+
+-- the end commits each target, if all serve and no request is in flight
+abbrev pub EndLines : (ℕ → Standing) → ℕ → List Line → Type 0
+EndLines standing targets ls =
+    ((t : ℕ) × IsLowest Fails standing targets t × (ls ≡ End_target t ∷ []))
+    ⊎ (((t : ℕ) → t < targets → standing t ≡ Serving)
+    × (((n : ℕ) × (ls ≡ End_request n ∷ []))
+    ⊎ (((steps : List Line) × AreStable standing 0 targets steps × (ls ≡ steps ++ End_clean ∷ []))
+    ⊎ ((steps front : List Line) × (t : ℕ) × AreStable standing 0 targets steps × IsFront front steps × (ls ≡ front ++ Stopped t ∷ End_target t ∷ [])))))
+
+-- targets whose formatting failed, ascending
+abbrev pub AreStopped : ℕ → ℕ → List Line → Type 0
+AreStopped t targets [] = Unit {0}
+AreStopped t targets (Stopped u ∷ more) = (t ≤ u) × (u < targets) × AreStopped (suc u) targets more
+AreStopped t targets _ = ⊥
+
+abbrev pub IsGroup : (ℕ → Standing) → ℕ → Command → List Line → Type 0
+IsGroup standing targets (Cluster made) ls = AreStopped 0 made ls
+IsGroup standing targets (Send request) ls = ls ≡ []
+IsGroup standing targets (Again number) ls = ls ≡ []
+IsGroup standing targets (Drop message) ls = ls ≡ []
+IsGroup standing targets Resend ls = ls ≡ []
+IsGroup standing targets (Fuse target after choice) ls = ls ≡ []
+IsGroup standing targets (Deliver message) ls = AreDeliveries ls
+IsGroup standing targets Settle ls = AreDeliveries ls ⊎ ((front : List Line) × AreDeliveries front × (ls ≡ front ++ Unsettled ∷ []))
+IsGroup standing targets (Commit target) ls = CommitLines (standing target) target ls
+IsGroup standing targets (Crash target) ls = CrashLines (standing target) target ls
+IsGroup standing targets (Restart target) ls = RestartLines (standing target) target ls
+IsGroup standing targets Recover ls = RecoverLines standing targets ls
+IsGroup standing targets Tree_shown ls = TreeLines standing targets ls
+IsGroup standing targets (Log_shown target) ls = LogLines (standing target) target ls
+IsGroup standing targets End ls = EndLines standing targets ls

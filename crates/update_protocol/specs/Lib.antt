@@ -1,0 +1,14 @@
+pub mod Lists
+pub mod Facts
+pub mod Seats
+pub mod Laws
+pub mod World
+pub mod Events
+pub mod Recovery
+pub mod Epochs
+pub mod Near
+pub mod Rows
+pub mod Parts
+pub mod Progress
+pub mod Machine
+pub mod Groups

@@ -1,0 +1,197 @@
+//! The protocol of the cluster as a machine, and what holds of each of its runs. The world of the cluster is a
+//! value; its events are what a target or a home does, and each has a guard that says no more than the target or
+//! the home can know. Whatever is delivered, lost, repeated or stopped, what was accepted is one legal history, and
+//! what a recovery keeps is a part of it that may be kept.
+//!
+//! No code runs here: each function is a law, its contract says it, and a call does nothing. The layer above may
+//! rest on the laws where its turns are events of this machine.
+#![tactic(auto)]
+
+ghost use Rattle.std.specs.Prelude.{[], Bool, List, Some, length, suc, take, true, ℕ, ◌++◌, ◌∷◌, ◌<◌, ◌≡◌, ◌≢◌};
+ghost use Rattle.tree_model.specs.History.{IsLegal};
+ghost use Rattle.tree_model.specs.Kept.{HasNumber, IsKept, laid_of};
+ghost use Rattle.tree_model.specs.Striped.{on};
+ghost use Rattle.tree_model.specs.declared.op.Request.{Request};
+ghost use Rattle.update_protocol.specs.Epochs.{Epoch, Reached, Story, kept_of};
+ghost use Rattle.update_protocol.specs.Events.{Accept, Adopt, Commit, Execute_comes, May, Stop, Tear, happens};
+ghost use Rattle.op_laws.specs.Laws.{IsCount};
+ghost use Rattle.update_protocol.specs.Laws.{Laws};
+ghost use Rattle.update_protocol.specs.Lists.{IsIn, Rising, put};
+ghost use Rattle.update_protocol.specs.Near.{Cause};
+ghost use Rattle.update_protocol.specs.Parts.{IsSent, all_of, entries_of, numbers_of, passing};
+ghost use Rattle.update_protocol.specs.Progress.{Asking, Note, Turn, Turns, idle};
+ghost use Rattle.update_protocol.specs.Recovery.{Gathered, Redo, before_item, kept_items};
+ghost use Rattle.update_protocol.specs.Rows.{AreOfCut, FitsLog, FitsTarget, live, pending};
+ghost use Rattle.update_protocol.specs.Seats.{Newest};
+ghost use Rattle.tree_shares.specs.Seats.{share_of};
+ghost use Rattle.update_protocol.specs.World.{Accepted, Attempt, Each, Follows, History, Sync, World, at, count_home, is_on, made, master, request_of};
+ghost use Rattle.update_record.specs.Spelling.{targets_from};
+
+use op_laws::{
+    keys_follow_objects, looks_are_told, objects_are_those_of_looks,
+    objects_have_keys_of_their_owners, objects_stand_with_their_owners,
+    parts_are_of_written_objects, written_objects_take_part,
+};
+use tree_model::{
+    layouts_are_beside_the_tree, only_looks_matter, only_written_keys_change,
+    the_step_is_decided_by_looks,
+};
+use tree_shares::parts_are_of_targets;
+use tree_sound::histories_keep_trees_sound;
+
+/// All that the protocol needs of single operations, over the trees of histories. The call does nothing: its contract
+/// is a law, as that of each call below.
+pub fn operations_have_laws()
+    ensures laws { (targets : ℕ) → IsCount targets → Laws targets }
+{
+    only_looks_matter();
+    only_written_keys_change();
+    the_step_is_decided_by_looks();
+    layouts_are_beside_the_tree();
+    histories_keep_trees_sound();
+    parts_are_of_targets();
+    objects_are_those_of_looks();
+    written_objects_take_part();
+    looks_are_told();
+    keys_follow_objects();
+    objects_stand_with_their_owners();
+    objects_have_keys_of_their_owners();
+    parts_are_of_written_objects();
+}
+
+/// Whatever is delivered, lost, repeated or stopped: what is named, with a front of what is pending at each target,
+/// is a part that may be kept. It is a legal history, and it has each item on which one of its items depends.
+pub fn every_cut_is_kept()
+    ensures kept { (targets : ℕ) → IsCount targets → (h : History) (w : World) → Reached targets h w
+        → (sent : ℕ → Request) → IsSent sent (h ++ entries_of w.since) → (cut : ℕ → ℕ) (kept : ℕ → Bool) → AreOfCut w cut kept
+        → IsKept targets (h ++ entries_of w.since) (numbers_of (h ++ entries_of (kept_items kept 0 w.since))) (all_of h ++ passing kept 0 w.since) }
+{
+    operations_have_laws();
+}
+
+/// At each moment what was accepted is a legal history, and each item is what its operation is on the tree before it.
+pub fn history_is_legal()
+    ensures legal { (targets : ℕ) → IsCount targets → (h : History) (w : World) → Reached targets h w
+        → (sent : ℕ → Request) → IsSent sent (h ++ entries_of w.since) → IsLegal targets (h ++ entries_of w.since) }
+    ensures participants { (targets : ℕ) → IsCount targets → (h : History) (w : World) → Reached targets h w
+        → Each (λ n x. targets_from 0 x.parts ≡ on targets (laid_of targets (before_item h w.since n)) (request_of x).op) w.since }
+    ensures items { (targets : ℕ) → IsCount targets → (h : History) (w : World) → Reached targets h w → Follows targets h w.since }
+{
+    operations_have_laws();
+}
+
+/// What is accepted is new: no item has its number, and those of its client and home have smaller ones, over all epochs.
+pub fn what_is_accepted_is_new()
+    ensures newest { (targets : ℕ) → IsCount targets → (h : History) (w : World) → Reached targets h w
+        → (m : ℕ) (x : Accepted) → May targets w (Accept m x) → Newest targets (h ++ entries_of w.since) (request_of x) }
+    ensures once { (targets : ℕ) → IsCount targets → (h : History) (w : World) → Reached targets h w
+        → (m : ℕ) (x : Accepted) → May targets w (Accept m x) → (sent : ℕ → Request) → IsSent sent (h ++ entries_of w.since)
+        → request_of x ≡ sent (request_of x).number → HasNumber (request_of x).number (h ++ entries_of w.since) → ⊥ }
+{
+    operations_have_laws();
+}
+
+/// What lines may show. What is pending at a target stands behind what is committed there. Both images that its disk
+/// may have after a commit that failed fit it, and so does its log; the transaction number is counted from the
+/// epoch's start.
+pub fn what_lines_show()
+    ensures pends { (targets : ℕ) → IsCount targets → (h : History) (w : World) → Reached targets h w → (t : ℕ) → w.done t ≡ w.disk t ++ pending w t }
+    ensures old_image { (targets : ℕ) → IsCount targets → (h : History) (w : World) → Reached targets h w → (t : ℕ) → FitsTarget w.since w.disk t (length (w.disk t)) (live (w.disk t) (w.kept_gone t)) }
+    ensures new_image { (targets : ℕ) → IsCount targets → (h : History) (w : World) → Reached targets h w → (t : ℕ) → FitsTarget w.since w.disk t (length (w.torn t)) (live (w.torn t) (w.torn_gone t)) }
+    ensures log { (targets : ℕ) → IsCount targets → (h : History) (w : World) → Reached targets h w → (t : ℕ) → FitsLog w t (live (w.done t) (w.gone t)) }
+    ensures position { (targets : ℕ) → IsCount targets → (h : History) (w : World) → Reached targets h w → Each (λ n a. a.batch ≡ suc (count_home (master a) (take n w.since))) w.since }
+{
+    operations_have_laws();
+}
+
+/// What is pending at each target after an event: one more where it executes, nothing where it commits, stops or is
+/// read again. Any other event leaves it as it is.
+pub fn what_is_pending()
+    ensures accepted { (targets : ℕ) → IsCount targets → (h : History) (w : World) → Reached targets h w → (m : ℕ) (x : Accepted) (s : ℕ) → pending (happens w (Accept m x)) s ≡ put (pending w) m (pending w m ++ length w.since ∷ []) s }
+    ensures executed { (targets : ℕ) → IsCount targets → (h : History) (w : World) → Reached targets h w → (n t s : ℕ) → pending (happens w (Execute_comes n t)) s ≡ put (pending w) t (pending w t ++ n ∷ []) s }
+    ensures committed { (targets : ℕ) → IsCount targets → (h : History) (w : World) → Reached targets h w → (t s : ℕ) → pending (happens w (Commit t)) s ≡ put (pending w) t [] s }
+    ensures stopped { (targets : ℕ) → IsCount targets → (h : History) (w : World) → Reached targets h w → (t s : ℕ) → pending (happens w (Stop t)) s ≡ put (pending w) t [] s }
+    ensures torn { (targets : ℕ) → IsCount targets → (h : History) (w : World) → Reached targets h w → (t s : ℕ) → pending (happens w (Tear t)) s ≡ put (pending w) t [] s }
+    ensures adopted { (targets : ℕ) → IsCount targets → (h : History) (w : World) → Reached targets h w → (t s : ℕ) → pending (happens w (Adopt t)) s ≡ put (pending w) t [] s }
+{
+    operations_have_laws();
+}
+
+/// A record that comes to be executed at a target names it, wasn't executed there, and has another home.
+pub fn each_record_is_executed_once()
+    ensures once { (targets : ℕ) → IsCount targets → (h : History) (w : World) → Reached targets h w → (n t : ℕ) → May targets w (Execute_comes n t)
+        → (n < length w.since) × (is_on (at w.since n) t ≡ true) × (IsIn n (w.done t) → ⊥) × (t ≡ master (at w.since n) → ⊥) }
+{
+    operations_have_laws();
+}
+
+/// Where a target that an attempt holds is asked for a sync and has something that isn't committed, the writer that
+/// the message names is pending there, is near to the request, and lacks one of its participants.
+pub fn each_shared_line_has_its_cause()
+    ensures cause { (targets : ℕ) → IsCount targets → (h : History) (w : World) → Reached targets h w
+        → length (h ++ entries_of w.since) < 0x0ffffffe → (a : Attempt) (t k : ℕ) → IsIn (Sync a t k) w.pool → w.serving ≡ true
+        → w.up t ≡ true → w.holder t ≡ Some a → (n : ℕ) → IsIn n (pending w t) → Cause targets w t k a.who.request }
+{
+    operations_have_laws();
+}
+
+/// A record is cancelled only where it is committed on each of its targets.
+pub fn a_cancelled_record_is_everywhere()
+    ensures everywhere { (targets : ℕ) → IsCount targets → (h : History) (w : World) → Reached targets h w
+        → (t n : ℕ) → IsIn n (w.gone t) → (s : ℕ) → is_on (at w.since n) s ≡ true → IsIn n (w.disk s) }
+{
+    operations_have_laws();
+}
+
+/// What a recovery redoes at a target: exactly the kept items that name it and that it lacks, in the order of the
+/// history.
+pub fn what_is_redone()
+    ensures order { (targets : ℕ) → IsCount targets → (base : History) (since : List Accepted) (disk : ℕ → List ℕ) (mark : ℕ → ℕ) (gone : ℕ → List ℕ) (kept : ℕ → Bool)
+        → Gathered targets base since disk mark gone kept → (t : ℕ) (extra : List ℕ) → Redo since disk mark gone t extra → Rising extra }
+    ensures redone { (targets : ℕ) → IsCount targets → (base : History) (since : List Accepted) (disk : ℕ → List ℕ) (mark : ℕ → ℕ) (gone : ℕ → List ℕ) (kept : ℕ → Bool)
+        → Gathered targets base since disk mark gone kept → (t : ℕ) (extra : List ℕ) → Redo since disk mark gone t extra → (n : ℕ) → IsIn n extra
+        → (n < length since) × (is_on (at since n) t ≡ true) × (kept n ≡ true) × (IsIn n (disk t) → ⊥) }
+    ensures all { (targets : ℕ) → IsCount targets → (base : History) (since : List Accepted) (disk : ℕ → List ℕ) (mark : ℕ → ℕ) (gone : ℕ → List ℕ) (kept : ℕ → Bool)
+        → Gathered targets base since disk mark gone kept → (t : ℕ) (extra : List ℕ) → Redo since disk mark gone t extra → (n : ℕ) → n < length since → is_on (at since n) t ≡ true → kept n ≡ true → (IsIn n (disk t) → ⊥) → IsIn n extra }
+{
+    operations_have_laws();
+}
+
+/// In a recovery both images that a target's disk may have fit it: the one before the redone records, and the one
+/// with them.
+pub fn what_a_redo_shows()
+    ensures old_image { (targets : ℕ) → IsCount targets → (base : History) (since : List Accepted) (disk : ℕ → List ℕ) (mark : ℕ → ℕ) (gone : ℕ → List ℕ) (kept : ℕ → Bool)
+        → Gathered targets base since disk mark gone kept → (t : ℕ) (extra : List ℕ) → Redo since disk mark gone t extra → FitsTarget since disk t (length (disk t)) (live (disk t) (gone t)) }
+    ensures new_image { (targets : ℕ) → IsCount targets → (base : History) (since : List Accepted) (disk : ℕ → List ℕ) (mark : ℕ → ℕ) (gone : ℕ → List ℕ) (kept : ℕ → Bool)
+        → Gathered targets base since disk mark gone kept → (t : ℕ) (extra : List ℕ) → Redo since disk mark gone t extra → FitsTarget since disk t (length (disk t ++ extra)) (live (disk t ++ extra) (gone t)) }
+{
+    operations_have_laws();
+}
+
+/// A completed recovery, stopped and begun again as often as may be, keeps whole operations: a part that may be kept,
+/// on each target exactly its share of it.
+pub fn a_recovery_keeps_whole_operations()
+    ensures kept { (targets : ℕ) → IsCount targets → (h : History) → Story targets h → (e : Epoch targets h) → (sent : ℕ → Request) → IsSent sent (h ++ entries_of e.world.since)
+        → IsKept targets (h ++ entries_of e.world.since) (numbers_of (h ++ entries_of (kept_of targets h e))) (all_of h ++ passing e.kept 0 e.world.since) }
+    ensures whole { (targets : ℕ) → IsCount targets → (h : History) → Story targets h → (e : Epoch targets h) → (t n : ℕ) → n < length e.world.since → e.kept n ≡ true → is_on (at e.world.since n) t ≡ true → IsIn n (e.disks t) }
+    ensures absent { (targets : ℕ) → IsCount targets → (h : History) → Story targets h → (e : Epoch targets h) → (t n : ℕ) → IsIn n (e.disks t) → e.kept n ≡ true }
+    ensures renewed { (targets : ℕ) → IsCount targets → (h : History) → Story targets h → (e : Epoch targets h) → (t : ℕ) → FitsTarget e.world.since e.disks t (length (e.disks t)) [] }
+    ensures shares { (targets : ℕ) → IsCount targets → (h : History) → Story targets h → (e : Epoch targets h) → (t : ℕ) → t < targets
+        → made targets e.world.since t (e.disks t) (share_of targets h t) ≡ share_of targets (h ++ entries_of (kept_of targets h e)) t }
+{
+    operations_have_laws();
+}
+
+/// Over any number of epochs all that was kept is one legal history.
+pub fn all_epochs_are_one_history()
+    ensures legal { (targets : ℕ) → IsCount targets → (h : History) → Story targets h → (sent : ℕ → Request) → IsSent sent h → IsLegal targets h }
+{
+    operations_have_laws();
+}
+
+/// Without a loss or a stop: where every message was delivered and each current attempt awaits an answer, nothing is
+/// held.
+pub fn nothing_is_held_when_all_is_delivered()
+    ensures free { (turns : List Turn) (w : Asking) → Turns idle turns w → w.fresh ≡ []
+        → ((m : ℕ) (a : Attempt) → w.trying m ≡ Some a → (p : Note) × IsIn p (w.awaits m)) → (t : ℕ) (a : Attempt) → w.holder t ≢ Some a }
+{}

@@ -29,3 +29,4 @@ pub mod Causes
 pub mod Turning
 pub mod Calm
 pub mod Members
+pub mod Instance

@@ -7,7 +7,7 @@
 //! rest on the laws where its turns are events of this machine.
 #![tactic(auto)]
 
-ghost use Rattle.std.specs.Prelude.{[], Bool, List, Some, length, suc, take, true, ℕ, ◌++◌, ◌∷◌, ◌<◌, ◌≡◌, ◌≢◌};
+ghost use Rattle.std.specs.Prelude.{[], Bool, List, Some, false, length, suc, take, true, ℕ, ◌++◌, ◌∷◌, ◌<◌, ◌≡◌, ◌≢◌};
 ghost use Rattle.tree_model.specs.History.{IsLegal};
 ghost use Rattle.tree_model.specs.Kept.{HasNumber, IsKept, laid_of};
 ghost use Rattle.tree_model.specs.Striped.{on};
@@ -195,3 +195,12 @@ pub fn nothing_is_held_when_all_is_delivered()
     ensures free { (turns : List Turn) (w : Asking) → Turns idle turns w → w.fresh ≡ []
         → ((m : ℕ) (a : Attempt) → w.trying m ≡ Some a → (p : Note) × IsIn p (w.awaits m)) → (t : ℕ) (a : Attempt) → w.holder t ≢ Some a }
 {}
+
+/// The premises of these laws can be met: there is a run in which an operation is accepted and committed before its
+/// target stops, and a recovery that keeps it.
+pub fn an_operation_can_be_kept()
+    ensures accepted { (w : World) × Reached 1 [] w × (length w.since ≡ 1) × (w.disk 0 ≡ 0 ∷ []) × (w.up 0 ≡ false) }
+    ensures kept { (h : History) × Story 1 h × (length h ≡ 1) }
+{
+    histories_keep_trees_sound();
+}

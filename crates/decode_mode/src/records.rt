@@ -1,6 +1,5 @@
 ghost use Rattle.std.specs.Prelude.{true, false, ◌≡◌, ◌⊎◌, ◌++◌, ℕ, List, IfOk, OnOk, codes};
 ghost use Rattle.std.specs.Io.KnownBytes.{Appends, Consumes, IsAtEnd};
-ghost use Rattle.std.specs.Fmt.{decimal};
 ghost use Rattle.outside.specs.Causes.{Rose};
 ghost use Rattle.byte_grammar.specs.declared.verdict.Verdict.{Verdict};
 ghost use Rattle.update_record.specs.Decoding.{IsFault};
@@ -10,7 +9,7 @@ ghost use Rattle.decode_mode.specs.Records.{id_text, labelled, head_line, part_l
 
 use crate::answer::{Answer, print_rest, refusal};
 use crate::format::{Format, decode};
-use fid_space::Bytes;
+use fid_space::{Bytes, print_number};
 use out_update::UpdateRequest;
 use outside::{Sink, Source, Status};
 use std::alloc::{AllocError as Memory, Global};
@@ -18,13 +17,6 @@ use update_record::{OpId, Record, RecordFault};
 
 /// Update records.
 pub struct Records;
-
-fn print_number(n: u64, out: &mut Bytes) -> Result<(), Memory>
-    ensures { OnOk result (out.new ≡ out.old ++ decimal n) }
-{
-    let text = n.to_string(out.alloc())?;
-    out.append(text.as_bytes())
-}
 
 #[tactic(auto, unfolding(crate::specs::Records::labelled))]
 fn print_labelled(label: &[u8], n: u64, out: &mut Bytes) -> Result<(), Memory>

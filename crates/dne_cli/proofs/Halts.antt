@@ -9,11 +9,13 @@ use Rattle.scenario_text.specs.declared.line.Line.TheVariants as lines
 use Rattle.scenario_text.specs.declared.line.Standing.{Standing}
 use Rattle.scenario_text.specs.declared.line.Standing.TheVariants.{Serving, Opened, Down}
 use Rattle.scenario_text.specs.declared.command.Command.TheVariants as commands
-use Rattle.dne_cli.specs.Kept.{Kept, Held, Crashes, Does, Reformats, Restarts, Starts, Touches, opened_on, settled_target, standing_of, stopped}
+use Rattle.dne_cli.specs.Kept.{Kept, Held, Crashes, Does, Reformats, Restarts, Starts, opened_on, settled_target, standing_of, stopped}
+use Rattle.dne_cli.specs.Disks.{HoldsBadImage, HoldsNothing, RestartsDisk, Touches, says_up}
 use Rattle.dne_cli.specs.Reached.{Agrees, HoldsSame, Stands, Stored}
 use Rattle.dne_cli.proofs.Asks.{taken_here, asks_on}
 use Rattle.dne_cli.proofs.Storing.{ReadsAgain, formats_at, never_damaged, opens_at, stops_at, unread_at}
-use Rattle.dne_cli.proofs.Taken.{IsTurn, skip_turn, fuse_turn, tree_turn, send_turn, cluster_turn, settle_turn, commit_turn, end_turn, state_turn, reads_again, or_none, true_false, never_clean, some_here, down_serving, opened_serving, opened_down, serving_down, not_true, no_down_in}
+use Rattle.dne_cli.proofs.Touching.{touches_refl}
+use Rattle.dne_cli.proofs.Taken.{IsTurn, skip_turn, fuse_turn, tree_turn, send_turn, cluster_turn, settle_turn, commit_turn, end_turn, state_turn, reads_again, or_first, or_none, or_true, true_false, never_clean, some_here, down_serving, opened_serving, opened_down, serving_down, not_true, no_down_in}
 
 -- what a target keeps that stopped
 holds_stopped : (s : State) (n : ℕ) (h : Held) (d : Shown) → HoldsSame s n h → IsSome s.asked.cluster → s.asked.ended ≡ false → h.formatted ≡ true → d.honest ≡ h.disk.honest → (IsTrue s.honest → Stored Down s.last s.history (n + 1) d)
@@ -47,9 +49,8 @@ stop_turn t s said n k a taken up group stored =
         few = (let f = a.few in omega (arith, f));
         holds = holds_stopped s n k.target k.target.disk a.holds taken.1.0 taken.1.1 (a.holds.up up) refl stored;
       };
-      later = omega arith;
-      cause = λ f. absurd (true_false f.0);
-      honest = refl;
+      disk = record { touches = touches_refl k.target.disk; cause = λ f. absurd (true_false f.0); does = refl };
+      made = sym (or_none k.target.formatted ∙ a.holds.up up);
     }
 
 crash_turn : (st : Standing) (t : ℕ) (s : State) (said : List Line) (n : ℕ) (k : Kept) (target : Held) (ls : List Line) → standing_of k.target ≡ st → Agrees s said n k → IsTaken s.asked (Order (commands.Crash t)) → Crashes st t k.target target ls
@@ -72,7 +73,7 @@ crash_turn Down t s said n k target ls is a taken c =
     let e : Entry = Order (commands.Crash t) in
     let told : ls ≡ lines.State t (standing_of k.target) ∷ [] = c.1 ∙ ap (λ x. lines.State t x ∷ []) (sym is) in
     subst (λ x. IsTurn s said n k e (record k { target = x }) ls) (sym c.0) (subst (λ x. IsTurn s said n k e k x) (sym told)
-    (state_turn e t s said n k a taken refl refl refl
+    (state_turn e t s said n k a taken refl refl refl refl refl
     (subst (λ x. CrashLines x t (lines.State t (standing_of k.target) ∷ [])) (sym (a.holds.standing ∙ is)) (ap (λ x. lines.State t x ∷ []) is))))
 
 -- STARTS
@@ -80,9 +81,9 @@ crash_turn Down t s said n k target ls is a taken c =
 -- a target that is down and stays down
 down_turn : (l : Line) (t : ℕ) (s : State) (said : List Line) (n : ℕ) (k : Kept) (d : Shown) → Agrees s said n k → IsTaken s.asked (Order (commands.Restart t)) → s.standing ≡ Down → k.target.formatted ≡ true → Touches k.target.disk d
     → RestartLines Down t (l ∷ []) → SaysAll (begun s (Order (commands.Restart t))) (l ∷ []) (record (begun s (Order (commands.Restart t))) { standing = Down; pend = [] })
-    → ((x : ℕ) → l ≡ lines.Down x → Rose k.target.disk.faults d.faults) → (IsTrue s.honest → Stored Down s.last s.history (n + 1) d)
+    → ((x : ℕ) → l ≡ lines.Down x → Rose k.target.disk.faults d.faults) → RestartsDisk true l k.target.disk d → (IsTrue s.honest → Stored Down s.last s.history (n + 1) d)
     → IsTurn s said n k (Order (commands.Restart t)) (record k { target = stopped true d }) (l ∷ [])
-down_turn l t s said n k d a taken here formatted touches group says rose stored =
+down_turn l t s said n k d a taken here formatted touches group says rose does stored =
     let e : Entry = Order (commands.Restart t) in
     record {
       state = record (begun s e) { standing = Down; pend = [] };
@@ -93,9 +94,8 @@ down_turn l t s said n k d a taken here formatted touches group says rose stored
         few = (let f = a.few in omega (arith, f));
         holds = holds_stopped s n k.target d a.holds taken.1.0 taken.1.1 formatted touches.stays.honest stored;
       };
-      later = touches.later;
-      cause = λ f. one f.1.0 f.1.1;
-      honest = touches.stays.honest;
+      disk = record { touches = touches; cause = λ f. one f.1.0 f.1.1; does = (subst (λ b. RestartsDisk b l k.target.disk d) (sym formatted) does, tt) };
+      made = sym (or_first k.target.formatted (says_up (l ∷ [])) formatted);
     }
   where
     one : (x : ℕ) → Among (l ∷ []) (lines.Down x) → Rose k.target.disk.faults d.faults
@@ -104,9 +104,9 @@ down_turn l t s said n k d a taken here formatted touches group says rose stored
 
 -- a target whose disk is damaged stays down
 damaged_turn : (l : Line) (t : ℕ) (s : State) (said : List Line) (n : ℕ) (k : Kept) (d : Shown) → Agrees s said n k → IsTaken s.asked (Order (commands.Restart t)) → s.standing ≡ Down → k.target.formatted ≡ true → Touches k.target.disk d
-    → RestartLines Down t (l ∷ []) → SaysAll (begun s (Order (commands.Restart t))) (l ∷ []) (begun s (Order (commands.Restart t))) → ((x : ℕ) → l ≡ lines.Down x → ⊥) → (IsTrue s.honest → ⊥)
+    → RestartLines Down t (l ∷ []) → SaysAll (begun s (Order (commands.Restart t))) (l ∷ []) (begun s (Order (commands.Restart t))) → ((x : ℕ) → l ≡ lines.Down x → ⊥) → RestartsDisk true l k.target.disk d → (IsTrue s.honest → ⊥)
     → IsTurn s said n k (Order (commands.Restart t)) (record k { target = stopped true d }) (l ∷ [])
-damaged_turn l t s said n k d a taken here formatted touches group says other never =
+damaged_turn l t s said n k d a taken here formatted touches group says other does never =
     let e : Entry = Order (commands.Restart t) in
     record {
       state = begun s e;
@@ -128,9 +128,8 @@ damaged_turn l t s said n k d a taken here formatted touches group says other ne
           stored = λ honest _. absurd (never honest);
         };
       };
-      later = touches.later;
-      cause = λ f. absurd (no_down_in l f.1.0 (other f.1.0) f.1.1);
-      honest = touches.stays.honest;
+      disk = record { touches = touches; cause = λ f. absurd (no_down_in l f.1.0 (other f.1.0) f.1.1); does = (subst (λ b. RestartsDisk b l k.target.disk d) (sym formatted) does, tt) };
+      made = sym (or_first k.target.formatted (says_up (l ∷ [])) formatted);
     }
 
 -- a target whose disk was formatted is started
@@ -168,32 +167,35 @@ start_turn t s said n k target ls a taken here formatted few (inl (d, transno, n
           stored = λ honest _. (at honest).stands;
         };
       };
-      later = r.touches.later;
-      cause = λ g. absurd (no_down_in (lines.Up t transno numbers) g.1.0 (λ x. cc) g.1.1);
-      honest = r.touches.stays.honest;
+      disk = record {
+        touches = r.touches;
+        cause = λ g. absurd (no_down_in (lines.Up t transno numbers) g.1.0 (λ x. cc) g.1.1);
+        does = (subst (λ b. RestartsDisk b (lines.Up t transno numbers) k.target.disk d) (sym formatted) r.after_stop, tt);
+      };
+      made = sym (or_true k.target.formatted);
     }))
 start_turn t s said n k target ls a taken here formatted few (inr (inl (d, u, made, one))) =
     let e : Entry = Order (commands.Restart t) in
     let v : State = record (begun s e) { standing = Down; pend = [] } in
     subst (λ x. IsTurn s said n k e (record k { target = x }) ls) (sym made) (subst (λ x. IsTurn s said n k e (record k { target = stopped true d }) x) (sym one)
-    (down_turn (lines.Down t) t s said n k d a taken here formatted u.faulted.touches (inr (inl refl)) (v, refl, refl) (λ x y. u.faulted.rose)
+    (down_turn (lines.Down t) t s said n k d a taken here formatted u.faulted.touches (inr (inl refl)) (v, refl, refl) (λ x y. u.faulted.rose) u.after_stop
     (λ honest. unread_at s.last s.history n k.target.disk d (subst (λ x. Stored x s.last s.history n k.target.disk) here (a.holds.stored honest formatted)) (u.images (subst IsTrue a.holds.honest honest)))))
 start_turn t s said n k target ls a taken here formatted few (inr (inr (inl (d, gates, g, made, one)))) =
     let e : Entry = Order (commands.Restart t) in
     let f = a.few in
     let again : ReadsAgain s.history = reads_again s.asked s.history said k a.asks (omega (arith, f, few)) in
-    let never : IsTrue s.honest → ⊥ = λ honest. never_damaged s.last s.history n k.target.disk d (subst (λ x. Stored x s.last s.history n k.target.disk) here (a.holds.stored honest formatted)) g again (subst IsTrue a.holds.honest honest) in
+    let never : IsTrue s.honest → ⊥ = λ honest. never_damaged (HoldsNothing gates) s.last s.history n k.target.disk d (subst (λ x. Stored x s.last s.history n k.target.disk) here (a.holds.stored honest formatted)) g again (subst IsTrue a.holds.honest honest) in
     let dishonest = not_true s.honest never in
     subst (λ x. IsTurn s said n k e (record k { target = x }) ls) (sym made) (subst (λ x. IsTurn s said n k e (record k { target = stopped true d }) x) (sym one)
-    (damaged_turn (lines.DamagedGates t gates) t s said n k d a taken here formatted g.touches (inr (inr (inl (gates, refl)))) (begun s e, (dishonest, refl), refl) (λ x y. cc) never))
+    (damaged_turn (lines.DamagedGates t gates) t s said n k d a taken here formatted g.touches (inr (inr (inl (gates, refl)))) (begun s e, (dishonest, refl), refl) (λ x y. cc) g.after_stop never))
 start_turn t s said n k target ls a taken here formatted few (inr (inr (inr (d, place, g, made, one)))) =
     let e : Entry = Order (commands.Restart t) in
     let f = a.few in
     let again : ReadsAgain s.history = reads_again s.asked s.history said k a.asks (omega (arith, f, few)) in
-    let never : IsTrue s.honest → ⊥ = λ honest. never_damaged s.last s.history n k.target.disk d (subst (λ x. Stored x s.last s.history n k.target.disk) here (a.holds.stored honest formatted)) g again (subst IsTrue a.holds.honest honest) in
+    let never : IsTrue s.honest → ⊥ = λ honest. never_damaged (HoldsBadImage place) s.last s.history n k.target.disk d (subst (λ x. Stored x s.last s.history n k.target.disk) here (a.holds.stored honest formatted)) g again (subst IsTrue a.holds.honest honest) in
     let dishonest = not_true s.honest never in
     subst (λ x. IsTurn s said n k e (record k { target = x }) ls) (sym made) (subst (λ x. IsTurn s said n k e (record k { target = stopped true d }) x) (sym one)
-    (damaged_turn (lines.DamagedImage t place) t s said n k d a taken here formatted g.touches (inr (inr (inr (place, refl)))) (begun s e, (dishonest, refl), refl) (λ x y. cc) never))
+    (damaged_turn (lines.DamagedImage t place) t s said n k d a taken here formatted g.touches (inr (inr (inr (place, refl)))) (begun s e, (dishonest, refl), refl) (λ x y. cc) g.after_stop never))
 
 reformat_turn : (t : ℕ) (s : State) (said : List Line) (n : ℕ) (k : Kept) (target : Held) (ls : List Line) → Agrees s said n k → IsTaken s.asked (Order (commands.Restart t)) → s.standing ≡ Down → k.target.formatted ≡ false → Reformats k.target.disk t target ls
     → IsTurn s said n k (Order (commands.Restart t)) (record k { target = target }) ls
@@ -222,15 +224,18 @@ reformat_turn t s said n k target ls a taken here raw (inl (d, f, made, one)) =
           ledger = tt;
           counted = λ x. absurd (opened_serving x);
           clean = λ x. absurd (never_clean s n k.target a.holds taken.1.1 x);
-          honest = a.holds.honest ∙ sym f.touches.stays.honest;
+          honest = a.holds.honest ∙ sym f.formatted.touches.stays.honest;
           new = λ x. absurd (some_here s.asked.cluster taken.1.0 x);
           fresh = λ x. absurd (true_false x);
-          stored = λ honest _. formats_at 0 s.history (n + 1) k.target.disk d f (subst IsTrue a.holds.honest honest) none.0 refl;
+          stored = λ honest _. formats_at 0 s.history (n + 1) k.target.disk d f.formatted (subst IsTrue a.holds.honest honest) none.0 refl;
         };
       };
-      later = f.touches.later;
-      cause = λ g. absurd (no_down_in (lines.Up t 0 []) g.1.0 (λ x. cc) g.1.1);
-      honest = f.touches.stays.honest;
+      disk = record {
+        touches = f.formatted.touches;
+        cause = λ g. absurd (no_down_in (lines.Up t 0 []) g.1.0 (λ x. cc) g.1.1);
+        does = (subst (λ b. RestartsDisk b (lines.Up t 0 []) k.target.disk d) (sym raw) (refl, refl, f.after_stop), tt);
+      };
+      made = sym (or_true k.target.formatted);
     }))
 reformat_turn t s said n k target ls a taken here raw (inr (d, f, made, one)) =
     let e : Entry = Order (commands.Restart t) in
@@ -251,15 +256,14 @@ reformat_turn t s said n k target ls a taken here raw (inr (d, f, made, one)) =
           ledger = tt;
           counted = λ x. absurd (down_serving x);
           clean = λ x. absurd (never_clean s n k.target a.holds taken.1.1 x);
-          honest = a.holds.honest ∙ sym f.touches.stays.honest;
+          honest = a.holds.honest ∙ sym f.faulted.touches.stays.honest;
           new = λ x. absurd (some_here s.asked.cluster taken.1.0 x);
           fresh = λ _. a.holds.fresh raw;
           stored = λ _ x. absurd (true_false (sym x));
         };
       };
-      later = f.touches.later;
-      cause = λ _. f.rose;
-      honest = f.touches.stays.honest;
+      disk = record { touches = f.faulted.touches; cause = λ _. f.faulted.rose; does = (subst (λ b. RestartsDisk b (lines.Down t) k.target.disk d) (sym raw) f.after_stop, tt) };
+      made = sym (or_none k.target.formatted ∙ raw);
     }))
 
 restart_turn : (st : Standing) (b : Bool) (t : ℕ) (s : State) (said : List Line) (n : ℕ) (k : Kept) (target : Held) (ls : List Line) → standing_of k.target ≡ st → k.target.formatted ≡ b → Agrees s said n k → IsTaken s.asked (Order (commands.Restart t)) → n < 2 ^ 32
@@ -268,13 +272,13 @@ restart_turn Serving b t s said n k target ls is made a taken few c =
     let e : Entry = Order (commands.Restart t) in
     let told : ls ≡ lines.State t (standing_of k.target) ∷ [] = c.1 ∙ ap (λ x. lines.State t x ∷ []) (sym is) in
     subst (λ x. IsTurn s said n k e (record k { target = x }) ls) (sym c.0) (subst (λ x. IsTurn s said n k e k x) (sym told)
-    (state_turn e t s said n k a taken refl refl refl
+    (state_turn e t s said n k a taken refl refl refl (refl, tt) refl
     (subst (λ x. RestartLines x t (lines.State t (standing_of k.target) ∷ [])) (sym (a.holds.standing ∙ is)) (ap (λ x. lines.State t x ∷ []) is))))
 restart_turn Opened b t s said n k target ls is made a taken few c =
     let e : Entry = Order (commands.Restart t) in
     let told : ls ≡ lines.State t (standing_of k.target) ∷ [] = c.1 ∙ ap (λ x. lines.State t x ∷ []) (sym is) in
     subst (λ x. IsTurn s said n k e (record k { target = x }) ls) (sym c.0) (subst (λ x. IsTurn s said n k e k x) (sym told)
-    (state_turn e t s said n k a taken refl refl refl
+    (state_turn e t s said n k a taken refl refl refl (refl, tt) refl
     (subst (λ x. RestartLines x t (lines.State t (standing_of k.target) ∷ [])) (sym (a.holds.standing ∙ is)) (ap (λ x. lines.State t x ∷ []) is))))
 restart_turn Down true t s said n k target ls is made a taken few c = start_turn t s said n k target ls a taken (a.holds.standing ∙ is) made few c
 restart_turn Down false t s said n k target ls is made a taken few c = reformat_turn t s said n k target ls a taken (a.holds.standing ∙ is) made c

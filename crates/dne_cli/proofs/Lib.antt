@@ -11,7 +11,6 @@ pub mod Taken
 pub mod Halts
 pub mod Touching
 pub mod Flags
-pub mod Stops
-pub mod Endings
+pub mod Places
 pub mod Complete
 pub mod Sessions

@@ -6,7 +6,8 @@ use Rattle.scenario_text.specs.LineText.{texts, line_text}
 use Rattle.scenario_text.specs.declared.line.Line.{Line}
 use Rattle.scenario_text.specs.declared.line.Line.TheVariants as lines
 use Rattle.scenario_text.specs.declared.line.Standing.TheVariants.{Down}
-use Rattle.dne_cli.specs.Kept.{Held, Ledger, Touches, Committed, CommitsLedger, Commits, Ends, Crashes, Starts, Restarts, standing_of, stopped, serving_on, all_stable, image_bytes}
+use Rattle.dne_cli.specs.Kept.{Held, Ledger, Committed, CommitsLedger, Commits, Ends, Crashes, Starts, Restarts, standing_of, stopped, serving_on, all_stable, image_bytes}
+use Rattle.dne_cli.specs.Disks.{Touches}
 use Rattle.dne_cli.specs.Restart.{held_of}
 use Rattle.dne_cli.specs.declared.target.Served.{Served}
 use Rattle.dne_cli.specs.declared.target.Halted.{Halted}

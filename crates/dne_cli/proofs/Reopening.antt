@@ -1,42 +1,77 @@
--- A disk that was stopped, and then read.
-use Rattle.std.specs.Prelude.{is_err, false, IsTrue}
-use Rattle.std.proofs.Common.{◌≡◌, ◌≤◌, inl, inr, ℕ, List, Some, None, Result, Err, sym, ◌∙◌, ap, subst, arith}
+-- A disk that was stopped, and then read or formatted.
+use Rattle.std.specs.Prelude.{is_err, IfErr, IfOk, OnErr}
+use Rattle.std.proofs.Common.{◌≡◌, ◌≤◌, ℕ, Bool, true, false, List, length, IsTrue, Some, None, Result, Ok, Err, inl, inr, refl, sym, ◌∙◌, ap, subst, arith}
 use Rattle.outside.specs.Causes.{Rose, HasCause}
 use Rattle.outside.specs.Disk.{Shown, Stays, IsImage, Cycles, settles}
 use Rattle.outside.proofs.Parts.{image_only}
 use Rattle.target_disk.specs.Slots.{Saved, opened}
+use Rattle.target_disk.specs.Look.{gates_of}
+use Rattle.target_disk.specs.Open.{Opens, StaysSettled}
 use Rattle.target_disk.specs.Reads.{Keeps}
+use Rattle.target_disk.specs.Store.{IsSettled}
 use Rattle.dne_cli.specs.Image.{numbers_in}
-use Rattle.dne_cli.specs.Kept.{Touches, Unread, Damaged}
+use Rattle.dne_cli.specs.Disks.{Cycled, Faulted, Formatted, HoldsBadImage, HoldsNothing, HoldsNumbers, StaysOff, Touches}
+use Rattle.dne_cli.specs.Kept.{Damaged, Reformatted, Reopened, Unformatted, Unread}
 use Rattle.dne_cli.proofs.Reading.{at_no_error}
+use Rattle.dne_cli.proofs.Touching.{touches_trans}
 
--- a disk before and after a stop and a start
-pub record Cycled (old mid : Shown) : Type 0 where
-  pub stays : Stays old mid
-  pub later : old.faults ≤ mid.faults
-  pub image : IsTrue old.honest → IsImage old.settled mid.content
-  pub settled : IsTrue old.honest → mid.settled ≡ settles mid.content
+at_error : {T E : Type 0} (result : Result T E) (P : Type 0) → is_err result ≡ true → OnErr result P → P
+at_error (Ok x) P e h = absurd (false_true e)
+  where
+    false_true : false ≡ true → ⊥
+    false_true e = cc
+at_error (Err x) P e h = h
 
-pub stays_on : (a b c : Shown) → Stays a b → Stays b c → Stays a c
-stays_on a b c one two = record { tells = two.tells ∙ one.tells; honest = two.honest ∙ one.honest; name = two.name ∙ one.name }
-
-pub cycled : {T E : Type 0} (result : Result T E) (old mid : Shown) → is_err result ≡ false → Stays old mid → HasCause old.faults mid.faults result → (IsTrue old.honest → Cycles result old mid) → Cycled old mid
-cycled result old mid none stays cause cycles = record {
-  stays = stays;
-  later = cause.later;
+pub cycled : {T E : Type 0} (result : Result T E) (old mid : Shown) → is_err result ≡ false → Stays old mid → HasCause old.faults mid.faults result → (IsTrue old.honest → Cycles result old mid) → (IsTrue old.honest → mid.failed ≡ is_err result) → Cycled old mid
+cycled result old mid none stays cause cycles flag = record {
+  touches = record { stays = stays; later = cause.later };
   image = λ honest. at_no_error result none (cycles honest).image;
   settled = λ honest. at_no_error result none (cycles honest).settled;
+  works = λ honest. flag honest ∙ none;
 }
+
+-- it couldn't be stopped and started
+pub stays_off : {T E : Type 0} (result : Result T E) (old new : Shown) → is_err result ≡ true → Stays old new → HasCause old.faults new.faults result → (IsTrue old.honest → Cycles result old new) → StaysOff old new
+stays_off result old new failed stays cause cycles = record {
+  faulted = record { touches = record { stays = stays; later = cause.later }; rose = at_error result (Rose old.faults new.faults) failed cause.failed };
+  content = λ honest. at_error result (new.content ≡ old.content) failed (cycles honest).err_content;
+  settled = λ honest. at_error result (new.settled ≡ old.settled) failed (cycles honest).err_settled;
+}
+
+pub unread_off : (old new : Shown) → StaysOff old new → Unread old new
+unread_off old new off = record {
+  faulted = off.faulted;
+  after_stop = inl off;
+  images = λ honest image here. subst (λ s. IsImage s image) (off.settled honest) here;
+}
+
+pub unformatted_off : (old new : Shown) → StaysOff old new → Unformatted old new
+unformatted_off old new off = record { faulted = off.faulted; after_stop = inl off }
+
+pub formatted_after : (old mid new : Shown) → Cycled old mid → Formatted mid new → Reformatted old new
+formatted_after old mid new cycle f = record {
+  formatted = record { touches = touches_trans old mid new cycle.touches f.touches; settled = λ honest. f.settled (subst IsTrue (sym cycle.touches.stays.honest) honest) };
+  after_stop = (mid, cycle, f);
+}
+
+pub unformatted_after : (old mid new : Shown) → Cycled old mid → Faulted mid new → Unformatted old new
+unformatted_after old mid new cycle f =
+    let later = cycle.touches.later in
+    let rose = f.rose in
+    record {
+      faulted = record { touches = touches_trans old mid new cycle.touches f.touches; rose = omega (arith, later, rose) };
+      after_stop = inr (mid, cycle, f);
+    }
 
 module _ (old mid new : Shown) (cycle : Cycled old mid) (keeps : Keeps mid new) where
   honest_still : IsTrue old.honest → IsTrue mid.honest
-  honest_still honest = subst IsTrue (sym cycle.stays.honest) honest
+  honest_still honest = subst IsTrue (sym cycle.touches.stays.honest) honest
 
   pub touched : Touches old new
-  touched = record { stays = stays_on old mid new cycle.stays keeps.stays; later = omega (arith, cycle.later, keeps.later) }
+  touched = touches_trans old mid new cycle.touches (record { stays = keeps.stays; later = keeps.later })
 
   pub rose : Rose mid.faults new.faults → Rose old.faults new.faults
-  rose up = omega (arith, cycle.later, up)
+  rose up = let later = cycle.touches.later in omega (arith, later, up)
 
   pub no_others : IsTrue old.honest → (image : List ℕ) → IsImage new.settled image → IsImage old.settled image
   no_others honest image here =
@@ -44,18 +79,41 @@ module _ (old mid new : Shown) (cycle : Cycled old mid) (keeps : Keeps mid new) 
       subst (IsImage old.settled) (sym (image_only mid.content image (subst (λ s. IsImage s image) same here))) (cycle.image honest)
 
   pub unread : Rose mid.faults new.faults → Unread old new
-  unread up = record { faulted = record { touches = touched; rose = rose up }; images = no_others }
+  unread up = record { faulted = record { touches = touched; rose = rose up }; after_stop = inr (mid, cycle, keeps, up); images = no_others }
 
-  pub damaged_gates : (IsTrue mid.honest → IsTrue mid.tells) → (IsTrue mid.tells → opened mid.content ≡ None) → Damaged old new
-  damaged_gates tells none = record {
+  pub damaged_gates : (gates : ℕ) → (IsTrue mid.honest → IsTrue mid.tells) → (IsTrue mid.tells → (opened mid.content ≡ None) × (gates ≡ gates_of mid.content)) → Damaged (HoldsNothing gates) old new
+  damaged_gates gates tells none = record {
     touches = touched;
-    cause = λ honest. (mid.content, cycle.image honest, inl (none (tells (honest_still honest))));
+    after_stop = (mid, cycle, keeps, none);
+    cause = λ honest. (mid.content, cycle.image honest, inl (none (tells (honest_still honest)).0));
     images = no_others;
   }
 
-  pub damaged_image : (image : List ℕ) (place : ℕ) → (IsTrue mid.honest → IsTrue mid.tells) → (IsTrue mid.tells → (s : Saved) × (opened mid.content ≡ Some s) × (s.bytes ≡ image)) → numbers_in image ≡ Err place → Damaged old new
+  pub damaged_image : (image : List ℕ) (place : ℕ) → (IsTrue mid.honest → IsTrue mid.tells) → (IsTrue mid.tells → (s : Saved) × (opened mid.content ≡ Some s) × (s.bytes ≡ image)) → numbers_in image ≡ Err place → Damaged (HoldsBadImage place) old new
   damaged_image image place tells opens bad = record {
     touches = touched;
+    after_stop = (mid, cycle, keeps, λ t. let found = opens t in (found.0, found.1, ap numbers_in found.2 ∙ bad));
     cause = λ honest. let found = opens (tells (honest_still honest)) in (mid.content, cycle.image honest, inr (found.0, place, found.1, ap numbers_in found.2 ∙ bad));
     images = no_others;
   }
+
+  pub reopened : (image numbers : List ℕ) → (IsTrue mid.honest → IsTrue mid.tells) → Opens mid new image → StaysSettled mid new → numbers_in image ≡ Ok numbers → Reopened old new (length numbers) numbers
+  reopened image numbers tells o settled read = record {
+    touches = touched;
+    after_stop = (mid, cycle, keeps, λ t. let found = o.opens t in (found.0, found.1, ap numbers_in found.2 ∙ read, refl));
+    counted = refl;
+    read = λ honest.
+        let here = honest_still honest in
+        let found = o.opens (tells here) in
+        (mid.content, cycle.image honest, (found.0, found.1, ap numbers_in found.2 ∙ read, settled found.0 here (cycle.settled honest) found.1));
+  }
+
+-- ANSWERS
+
+pub if_ok_map : {T E : Type 0} (result : Result T E) (P Q : T → Type 0) → ((x : T) → P x → Q x) → IfOk result P → IfOk result Q
+if_ok_map (Ok x) P Q f h = f x h
+if_ok_map (Err e) P Q f h = tt
+
+pub if_err_map : {T E : Type 0} (result : Result T E) (P Q : E → Type 0) → ((x : E) → P x → Q x) → IfErr result P → IfErr result Q
+if_err_map (Ok x) P Q f h = tt
+if_err_map (Err e) P Q f h = f e h

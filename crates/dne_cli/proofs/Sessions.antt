@@ -14,7 +14,8 @@ use Rattle.scenario_text.proofs.OneSpelling.{one_command}
 use Rattle.dne_cli.specs.Kept.{Kept, Held, Does, Obeys, is_used, turned_away}
 use Rattle.dne_cli.specs.Session.{count_of, marks, target_of}
 use Rattle.dne_cli.specs.Restart.{held_of}
-use Rattle.dne_cli.specs.Reached.{IsBad, Stands}
+use Rattle.dne_cli.specs.Disks.{Touches}
+use Rattle.dne_cli.specs.Reached.{IsBad, Stands, session_takes}
 use Rattle.dne_cli.specs.declared.target.Target.{Target}
 use Rattle.dne_cli.proofs.Flags.{marks_most}
 
@@ -83,3 +84,9 @@ turned_next rs i r out new old low is so_far e =
     let rest : List ℕ = texts (turned_away (drop (suc i) rs)) in
     ap (λ n. new ++ texts (turned_away (drop n rs))) (add-one i) ∙ ap (λ l. l ++ rest) e
     ∙ append_assoc out (line_text (lines.Recovering r.number 0)) rest ∙ ap (λ l. out ++ texts (turned_away l)) (sym here) ∙ so_far
+
+-- a line that was run is one step of the session's rules
+pub took : {T E : Type 0} (result : Result T E) (old new : Kept) (line out now : List ℕ) → OnOk result ((e : Entry) × (ls : List Line) × Stands old e × (line ≡ line_of e) × Does old e new ls × (now ≡ out ++ texts ls)) → Touches old.target.disk new.target.disk
+    → OnOk result ((more : List ℕ) × session_takes old line new more × (now ≡ out ++ more))
+took (Ok x) old new line out now says touches = (texts says.1, ((says.0, says.1, says.2, says.3, says.4, refl), touches), says.5)
+took (Err e) old new line out now says touches = tt

@@ -10,7 +10,8 @@ use Rattle.scenario_text.specs.Machine.{numbers_of}
 use Rattle.scenario_text.specs.declared.line.Standing.{Standing}
 use Rattle.scenario_text.specs.declared.line.Standing.TheVariants.{Serving, Opened, Down}
 use Rattle.dne_cli.specs.Image.{Holds, head_bytes, image_of, numbers_in}
-use Rattle.dne_cli.specs.Kept.{Committed, Damaged, Formatted, Ledger, Reopened, Torn, image_bytes}
+use Rattle.dne_cli.specs.Kept.{Committed, Damaged, Ledger, Reopened, Torn, image_bytes}
+use Rattle.dne_cli.specs.Disks.{Formatted}
 use Rattle.dne_cli.specs.Reached.{Matches, StandsAt, Stored}
 
 -- a disk with everything settled opens as its content
@@ -128,8 +129,8 @@ opens_at last h lines disk new transno numbers s r honest again =
     }
 
 -- an honest disk isn't damaged
-pub never_damaged : (last : ℕ) (h : List Item) (lines : ℕ) (disk new : Shown) → Stored Down last h lines disk → Damaged disk new → ReadsAgain h → IsTrue disk.honest → ⊥
-never_damaged last h lines disk new s d again honest =
+pub never_damaged : (P : List ℕ → Type 0) (last : ℕ) (h : List Item) (lines : ℕ) (disk new : Shown) → Stored Down last h lines disk → Damaged P disk new → ReadsAgain h → IsTrue disk.honest → ⊥
+never_damaged P last h lines disk new s d again honest =
     let cause = d.cause honest in
     let o = s cause.0 cause.1 in
     elim cause.2 [

@@ -2,7 +2,6 @@
 use Rattle.std.proofs.Common.{◌≡◌, ◌<◌, ◌≤◌, ◌+◌, ◌||◌, ◌^◌, ℕ, zero, suc, Bool, true, false, cond, List, [], ◌∷◌, ◌++◌, length, take, set, Option, Some, None, IsSome, IfSome, IsTrue, is_some, unwrap_or, inl, inr, refl, sym, ap, ◌∙◌, subst, length-append, arith}
 use Rattle.std.specs.List.{AllByRecursion}
 use Rattle.std.proofs.lemmas.List.{length-replicate, get_or-replicate, length-take-le}
-use Rattle.outside.specs.Causes.{Rose}
 use Rattle.outside.specs.Disk.{Shown}
 use Rattle.tree_model.specs.History.{Item, tree_of}
 use Rattle.tree_model.specs.OpText.{IsOp}
@@ -18,23 +17,23 @@ use Rattle.scenario_text.specs.declared.line.Standing.TheVariants.{Serving, Open
 use Rattle.scenario_text.specs.declared.command.Command.TheVariants as commands
 use Rattle.dne_cli.specs.Image.{items_bytes}
 use Rattle.dne_cli.specs.Kept.{Kept, Held, Ledger, Committed, Torn, Commits, Ends, Founds, all_stable, empty_ledger, image_bytes, ledger_after, no_seats, served, served_lines, serving_on, settle_lines, standing_of, stopped, tree_lines, turned_away}
-use Rattle.dne_cli.specs.Transcript.{IsFailure}
+use Rattle.dne_cli.specs.Disks.{DiskTurn, DoesToDisk, made_by, makes}
 use Rattle.dne_cli.specs.Reached.{IsPlayedRequest, Agrees, AsksSame, HoldsSame, Matches, Stored, greatest}
 use Rattle.dne_cli.proofs.Lists.{all_map, all_among}
+use Rattle.dne_cli.proofs.Touching.{touches_refl}
 use Rattle.dne_cli.proofs.Asks.{asks_on, asks_end, asks_cluster, asks_send, asks_settle, all_answered, one_target}
 use Rattle.dne_cli.proofs.Settling.{IsReady, Serves, serve_all, turned_says, turned_lines, turned_answers}
 use Rattle.dne_cli.proofs.Storing.{ReadsAgain, commits_at, formats_at, grows_at, image_is, stored_later, torn_at}
 use Rattle.dne_cli.proofs.Images.{Fits, name_of, numbers_again}
 
--- a turn, what it owes, what the session then keeps, and the disk's count
+-- a turn, what it owes, what the session then keeps, and what it does to the disk
 pub record IsTurn (s : State) (said : List Line) (count : ℕ) (k : Kept) (e : Entry) (new : Kept) (ls : List Line) : Type 0 where
   pub state : State
   pub turn : Turn s (record { entry = e; lines = ls }) state
   pub served : IsServed e (asked_after s.asked e).sent (said ++ ls)
   pub agrees : Agrees state (said ++ ls) (count + 1) new
-  pub later : k.target.disk.faults ≤ new.target.disk.faults
-  pub cause : IsFailure (record { entry = e; lines = ls }) → Rose k.target.disk.faults new.target.disk.faults
-  pub honest : new.target.disk.honest ≡ k.target.disk.honest
+  pub disk : DiskTurn k.target.formatted (record { entry = e; lines = ls }) k.target.disk new.target.disk
+  pub made : new.target.formatted ≡ made_by k.target.formatted (record { entry = e; lines = ls })
 
 -- SMALL FACTS
 
@@ -43,9 +42,13 @@ or_again true b = refl
 or_again false true = refl
 or_again false false = refl
 
-or_true : (a : Bool) → a || true ≡ true
+pub or_true : (a : Bool) → a || true ≡ true
 or_true true = refl
 or_true false = refl
+
+pub or_first : (a b : Bool) → a ≡ true → a || b ≡ true
+or_first true b e = refl
+or_first false b e = cc
 
 pub or_none : (a : Bool) → a || false ≡ a
 or_none true = refl
@@ -143,9 +146,8 @@ skip_turn line s said n k a taken = record {
   turn = (taken, refl, refl);
   served = λ e. absurd (true_false (sym e));
   agrees = record { asks = asks_on s.asked s.history said [] k k.target a.asks; few = (let f = a.few in omega (arith, f)); holds = holds_sent s n k.target s.asked.sent a.holds };
-  later = omega arith;
-  cause = λ f. absurd f.1.1;
-  honest = refl;
+  disk = record { touches = touches_refl k.target.disk; cause = λ f. absurd f.1.1; does = refl };
+  made = sym (or_none k.target.formatted);
 }
 
 pub fuse_turn : (t after choice : ℕ) (s : State) (said : List Line) (n : ℕ) (k : Kept) → Agrees s said n k → IsTaken s.asked (Order (commands.Fuse t after choice)) → IsTurn s said n k (Order (commands.Fuse t after choice)) k []
@@ -154,9 +156,8 @@ fuse_turn t after choice s said n k a taken = record {
   turn = (taken, refl, refl);
   served = λ e. absurd (true_false (sym e));
   agrees = record { asks = asks_on s.asked s.history said [] k k.target a.asks; few = (let f = a.few in omega (arith, f)); holds = holds_sent s n k.target s.asked.sent a.holds };
-  later = omega arith;
-  cause = λ f. absurd f.1.1;
-  honest = refl;
+  disk = record { touches = touches_refl k.target.disk; cause = λ f. absurd f.1.1; does = refl };
+  made = sym (or_none k.target.formatted);
 }
 
 tree_none : (st : Standing) → serves st ≡ false → TreeLines st (lines.TreeState 0 ∷ [])
@@ -173,9 +174,8 @@ tree_turn None s said n k is a taken =
       turn = (taken, tree_none s.standing stopped, (t, (stopped, refl), refl));
       served = λ e. absurd (true_false (sym e));
       agrees = record { asks = asks_on s.asked s.history said (lines.TreeState 0 ∷ []) k k.target a.asks; few = (let f = a.few in omega (arith, f)); holds = holds_sent s n k.target s.asked.sent a.holds };
-      later = omega arith;
-      cause = λ f. absurd (other f.1.0 f.1.1);
-      honest = refl;
+      disk = record { touches = touches_refl k.target.disk; cause = λ f. absurd (other f.1.0 f.1.1); does = refl };
+      made = sym (or_none k.target.formatted);
     }
   where
     other : (t : ℕ) → Among (lines.TreeState 0 ∷ []) (lines.Down t) → ⊥
@@ -190,9 +190,8 @@ tree_turn (Some l) s said n k is a taken =
       turn = (taken, subst (λ x. TreeLines x (lines.Tree l.tree ∷ [])) (sym serving) (l.tree, refl), (t, (m.tree, refl), refl));
       served = λ e. absurd (true_false (sym e));
       agrees = record { asks = asks_on s.asked s.history said (lines.Tree l.tree ∷ []) k k.target a.asks; few = (let f = a.few in omega (arith, f)); holds = holds_sent s n k.target s.asked.sent a.holds };
-      later = omega arith;
-      cause = λ f. absurd (other f.1.0 f.1.1);
-      honest = refl;
+      disk = record { touches = touches_refl k.target.disk; cause = λ f. absurd (other f.1.0 f.1.1); does = refl };
+      made = sym (or_none k.target.formatted);
     }
   where
     other : (t : ℕ) → Among (lines.Tree l.tree ∷ []) (lines.Down t) → ⊥
@@ -210,9 +209,8 @@ send_turn r s said n k a taken = record {
     few = (let f = a.few in let b = length-append k.waiting (r ∷ []) in omega (arith, f, b));
     holds = holds_sent s n k.target (s.asked.sent ++ r ∷ []) a.holds;
   };
-  later = omega arith;
-  cause = λ f. absurd f.1.1;
-  honest = refl;
+  disk = record { touches = touches_refl k.target.disk; cause = λ f. absurd f.1.1; does = refl };
+  made = sym (or_none k.target.formatted);
 }
 
 pub cluster_turn : (m : ℕ) (s : State) (said : List Line) (n : ℕ) (k : Kept) (target : Held) (ls : List Line) → Agrees s said n k → IsTaken s.asked (Order (commands.Cluster m)) → Founds k.target.disk m target ls
@@ -250,9 +248,8 @@ cluster_turn m s said n k target ls a taken (inl (d, formatted, is, none)) =
           stored = λ honest _. formats_at s.last s.history (n + 1) k.target.disk d formatted (subst IsTrue a.holds.honest honest) new.0 new.2;
         };
       };
-      later = formatted.touches.later;
-      cause = λ f. absurd f.1.1;
-      honest = formatted.touches.stays.honest;
+      disk = record { touches = formatted.touches; cause = λ f. absurd f.1.1; does = formatted };
+      made = sym (or_true k.target.formatted);
     }))
   where
     some_none : (m : ℕ) → ◌≡◌ {A = Option ℕ} (Some m) None → ⊥
@@ -284,9 +281,8 @@ cluster_turn m s said n k target ls a taken (inr (d, faulted, is, one)) =
           stored = λ _ f. absurd (true_false (sym f));
         };
       };
-      later = faulted.touches.later;
-      cause = λ _. faulted.rose;
-      honest = faulted.touches.stays.honest;
+      disk = record { touches = faulted.touches; cause = λ _. faulted.rose; does = faulted };
+      made = sym (or_none k.target.formatted ∙ new.3);
     }))
   where
     some_none : (m : ℕ) → ◌≡◌ {A = Option ℕ} (Some m) None → ⊥
@@ -308,9 +304,8 @@ away_turn s said n k is a taken =
         few = (let f = a.few in omega (arith, f));
         holds = holds_sent s n k.target s.asked.sent a.holds;
       };
-      later = omega arith;
-      cause = λ f. absurd (no_down (turned_away k.waiting) f.1.0 (turned_lines k.waiting) f.1.1);
-      honest = refl;
+      disk = record { touches = touches_refl k.target.disk; cause = λ f. absurd (no_down (turned_away k.waiting) f.1.0 (turned_lines k.waiting) f.1.1); does = refl };
+      made = sym (or_none k.target.formatted);
     }
 
 -- a settle of a target that serves
@@ -355,9 +350,8 @@ serve_turn l s said n k is a taken =
               (grows_at s.last s.history v.history v.more n k.target.disk v.longer (subst (λ x. Stored x s.last s.history n k.target.disk) serving (a.holds.stored honest f)));
         };
       };
-      later = omega arith;
-      cause = λ f. absurd (no_down (served_lines l k.waiting) f.1.0 v.lines f.1.1);
-      honest = refl;
+      disk = record { touches = touches_refl k.target.disk; cause = λ f. absurd (no_down (served_lines l k.waiting) f.1.0 v.lines f.1.1); does = refl };
+      made = sym (or_none k.target.formatted);
     }
 
 pub settle_turn : (x : Option Ledger) (s : State) (said : List Line) (n : ℕ) (k : Kept) → k.target.ledger ≡ x → Agrees s said n k → IsTaken s.asked (Order commands.Settle)
@@ -378,9 +372,9 @@ commit_none Opened t e = refl
 commit_none Down t e = refl
 
 -- a target's state is told
-pub state_turn : (e : Entry) (t : ℕ) (s : State) (said : List Line) (n : ℕ) (k : Kept) → Agrees s said n k → IsTaken s.asked e → begun s e ≡ record s { formatted = is_formatted s } → asked_after s.asked e ≡ s.asked → is_settle e ≡ false → IsGroup s.standing e (lines.State t (standing_of k.target) ∷ [])
-    → IsTurn s said n k e k (lines.State t (standing_of k.target) ∷ [])
-state_turn e t s said n k a taken here asked settle group =
+pub state_turn : (e : Entry) (t : ℕ) (s : State) (said : List Line) (n : ℕ) (k : Kept) → Agrees s said n k → IsTaken s.asked e → begun s e ≡ record s { formatted = is_formatted s } → asked_after s.asked e ≡ s.asked → is_settle e ≡ false → DoesToDisk k.target.formatted e (lines.State t (standing_of k.target) ∷ []) k.target.disk k.target.disk
+    → makes e (lines.State t (standing_of k.target) ∷ []) ≡ false → IsGroup s.standing e (lines.State t (standing_of k.target) ∷ []) → IsTurn s said n k e k (lines.State t (standing_of k.target) ∷ [])
+state_turn e t s said n k a taken here asked settle does quiet group =
     let b : State = record s { formatted = is_formatted s } in
     let ls : List Line = lines.State t (standing_of k.target) ∷ [] in
     record {
@@ -388,9 +382,8 @@ state_turn e t s said n k a taken here asked settle group =
       turn = (taken, group, subst (λ x. SaysAll x ls b) (sym here) (b, (sym a.holds.standing, refl), refl));
       served = λ x. absurd (true_false (sym x ∙ settle));
       agrees = record { asks = asks_on s.asked s.history said ls k k.target a.asks; few = (let f = a.few in omega (arith, f)); holds = holds_sent s n k.target s.asked.sent a.holds };
-      later = omega arith;
-      cause = λ f. absurd (no_down_in (lines.State t (standing_of k.target)) f.1.0 (λ x. cc) f.1.1);
-      honest = refl;
+      disk = record { touches = touches_refl k.target.disk; cause = λ f. absurd (no_down_in (lines.State t (standing_of k.target)) f.1.0 (λ x. cc) f.1.1); does = does };
+      made = sym (ap (λ x. k.target.formatted || x) quiet ∙ or_none k.target.formatted);
     }
 
 -- what a target keeps after a commit
@@ -440,7 +433,7 @@ commit_turn None t s said n k target ls is a taken few c =
     let e : Entry = Order (commands.Commit t) in
     let stopped : serves (standing_of k.target) ≡ false = not_serving k.target is in
     subst (λ x. IsTurn s said n k e (record k { target = x }) ls) (sym c.0) (subst (λ x. IsTurn s said n k e k x) (sym c.1)
-    (state_turn e t s said n k a taken refl refl refl (subst (λ x. CommitLines x t (lines.State t (standing_of k.target) ∷ [])) (sym a.holds.standing) (commit_none (standing_of k.target) t stopped))))
+    (state_turn e t s said n k a taken refl refl refl tt refl (subst (λ x. CommitLines x t (lines.State t (standing_of k.target) ∷ [])) (sym a.holds.standing) (commit_none (standing_of k.target) t stopped))))
 commit_turn (Some l) t s said n k target ls is a taken few (inl (d, c, made, one)) =
     let e : Entry = Order (commands.Commit t) in
     let serving : s.standing ≡ Serving = a.holds.standing ∙ is_up k.target l is in
@@ -458,9 +451,8 @@ commit_turn (Some l) t s said n k target ls is a taken few (inl (d, c, made, one
         few = (let f = a.few in omega (arith, f));
         holds = holds_commit l s n k.target d s.asked.ended s.clean is a.holds taken.1.0 serving few c (λ x. (a.holds.clean x).0);
       };
-      later = c.touches.later;
-      cause = λ f. absurd (no_down_in (lines.Stable t l.pend) f.1.0 (λ x. cc) f.1.1);
-      honest = c.touches.stays.honest;
+      disk = record { touches = c.touches; cause = λ f. absurd (no_down_in (lines.Stable t l.pend) f.1.0 (λ x. cc) f.1.1); does = tt };
+      made = sym (or_none k.target.formatted ∙ a.holds.up (λ x. serving_down (sym serving ∙ x)));
     }))
 commit_turn (Some l) t s said n k target ls is a taken few (inr (d, c, made, one)) =
     let e : Entry = Order (commands.Commit t) in
@@ -474,9 +466,8 @@ commit_turn (Some l) t s said n k target ls is a taken few (inr (d, c, made, one
       turn = (taken, subst (λ x. CommitLines x t line) (sym serving) (inr refl), (u, refl, refl));
       served = λ x. absurd (true_false (sym x));
       agrees = record { asks = asks_on s.asked s.history said line k held a.asks; few = (let f = a.few in omega (arith, f)); holds = holds_torn l s n k.target d s.asked.ended is a.holds taken.1.0 taken.1.1 serving few c };
-      later = c.faulted.touches.later;
-      cause = λ _. c.faulted.rose;
-      honest = c.faulted.touches.stays.honest;
+      disk = record { touches = c.faulted.touches; cause = λ _. c.faulted.rose; does = tt };
+      made = sym (or_none k.target.formatted ∙ a.holds.up (λ x. serving_down (sym serving ∙ x)));
     }))
 
 end_none : (st : Standing) → serves st ≡ false → EndLines st (lines.EndUnclean 0 ∷ [])
@@ -511,9 +502,8 @@ end_turn None s said n k target ls is a taken few c =
       turn = (taken, end_none s.standing stopped, (u, (stopped, refl), refl));
       served = λ x. absurd (true_false (sym x));
       agrees = record { asks = asks_end s.asked s.history said line k k.target a.asks; few = (let f = a.few in omega (arith, f)); holds = holds_end s n k.target a.holds };
-      later = omega arith;
-      cause = λ f. absurd (no_down_in (lines.EndUnclean 0) f.1.0 (λ x. cc) f.1.1);
-      honest = refl;
+      disk = record { touches = touches_refl k.target.disk; cause = λ f. absurd (no_down_in (lines.EndUnclean 0) f.1.0 (λ x. cc) f.1.1); does = tt };
+      made = sym (or_none k.target.formatted);
     }))
 end_turn (Some l) s said n k target ls is a taken few (inl (d, c, made, two)) =
     let e : Entry = Order commands.End in
@@ -533,9 +523,8 @@ end_turn (Some l) s said n k target ls is a taken few (inl (d, c, made, two)) =
         few = (let f = a.few in omega (arith, f));
         holds = holds_commit l s n k.target d true true is a.holds taken.1.0 serving few c (λ _. refl);
       };
-      later = c.touches.later;
-      cause = λ f. absurd (other f.1.0 f.1.1);
-      honest = c.touches.stays.honest;
+      disk = record { touches = c.touches; cause = λ f. absurd (other f.1.0 f.1.1); does = tt };
+      made = sym (or_none k.target.formatted ∙ a.holds.up (λ x. serving_down (sym serving ∙ x)));
     }))
   where
     other : (t : ℕ) → Among (lines.Stable 0 l.pend ∷ lines.EndClean ∷ []) (lines.Down t) → ⊥
@@ -554,7 +543,6 @@ end_turn (Some l) s said n k target ls is a taken few (inr (d, c, made, two)) =
       turn = (taken, subst (λ x. EndLines x both) (sym serving) (inr refl), (u, refl, (u, (refl, refl), refl)));
       served = λ x. absurd (true_false (sym x));
       agrees = record { asks = asks_end s.asked s.history said both k held a.asks; few = (let f = a.few in omega (arith, f)); holds = holds_torn l s n k.target d true is a.holds taken.1.0 taken.1.1 serving few c };
-      later = c.faulted.touches.later;
-      cause = λ _. c.faulted.rose;
-      honest = c.faulted.touches.stays.honest;
+      disk = record { touches = c.faulted.touches; cause = λ _. c.faulted.rose; does = tt };
+      made = sym (or_none k.target.formatted ∙ a.holds.up (λ x. serving_down (sym serving ∙ x)));
     }))

@@ -1,7 +1,7 @@
 -- Calls on a disk, one after another.
 use Rattle.std.proofs.Common.{◌∙◌, refl, arith}
 use Rattle.outside.specs.Disk.{Shown}
-use Rattle.dne_cli.specs.Kept.{Touches}
+use Rattle.dne_cli.specs.Disks.{Touches}
 
 pub touches_refl : (d : Shown) → Touches d d
 touches_refl d = record { stays = record { tells = refl; honest = refl; name = refl }; later = omega arith }

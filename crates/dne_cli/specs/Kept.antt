@@ -2,8 +2,7 @@
 use Rattle.std.specs.Prelude.{◌≡◌, ◌≤◌, ◌<◌, ◌+◌, ◌-◌, ◌^◌, ◌⊎◌, nat_lt, length, ℕ, Bool, true, false, IsTrue, List, [], ◌∷◌, ◌++◌, slice_set, slice_index_or, replicate, Option, Some, None, Ok, Err, if◌then◌else◌, is_some, refl}
 use Rattle.std.specs.List.{flat_map}
 use Rattle.std.specs.Coded.{Coded, code_by, coded×, coded_ℕ, coded_list, coded_bool, coded_option}
-use Rattle.outside.specs.Causes.{Rose}
-use Rattle.outside.specs.Disk.{Shown, Stays, IsImage}
+use Rattle.outside.specs.Disk.{Shown, IsImage}
 use Rattle.target_disk.specs.Slots.{Saved, opened}
 use Rattle.target_disk.specs.Store.{IsSettled, OpensAsEither, next}
 use Rattle.tree_model.specs.Tree.{Grown, base, coded_grown}
@@ -20,6 +19,7 @@ use Rattle.scenario_text.specs.declared.command.Command.{Command}
 use Rattle.scenario_text.specs.declared.command.Command.TheVariants as commands
 use Rattle.scenario_text.specs.Spelling.{Entry, Skip, Order}
 use Rattle.dne_cli.specs.Image.{head_bytes, item_bytes, image_of, numbers_in}
+use Rattle.dne_cli.specs.Disks.{FailsToFormat, FailsToRead, Faulted, Formatted, FormatsAfterStop, HoldsBadImage, HoldsNothing, HoldsNumbers, ReadsAfterStop, Touches}
 
 -- what a target that serves keeps in memory: its tree with the cluster, how many operations it accepted
 -- and their bytes in the image, the greatest number of each client, and what isn't stable yet
@@ -134,30 +134,12 @@ settle_lines (Some l) rs = served_lines l rs
 
 -- THE DISK
 
--- a call on a disk leaves it the same disk, and its count doesn't fall
-pub record Touches (old new : Shown) : Type 0 where
-  pub stays : Stays old new
-  pub later : old.faults ≤ new.faults
-
 -- the bytes that a ledger commits
 abbrev pub image_bytes : Ledger → List ℕ
 image_bytes l = head_bytes l.count ++ l.bytes
 
 abbrev pub all_stable : Ledger → Ledger
 all_stable l = record l { pend = [] }
-
-abbrev pub first_saved : Saved
-first_saved = record { generation = 1; bytes = image_of [] }
-
--- a disk that was formatted
-pub record Formatted (old new : Shown) : Type 0 where
-  pub touches : Touches old new
-  pub settled : IsTrue old.honest → IsSettled new first_saved
-
--- a disk that a call failed on
-pub record Faulted (old new : Shown) : Type 0 where
-  pub touches : Touches old new
-  pub rose : Rose old.faults new.faults
 
 -- an image that was committed
 pub record Committed (bytes : List ℕ) (old new : Shown) : Type 0 where
@@ -172,19 +154,32 @@ pub record Torn (bytes : List ℕ) (old new : Shown) : Type 0 where
 -- a disk that a stop left with one of its images, which was read
 pub record Reopened (old new : Shown) (transno : ℕ) (numbers : List ℕ) : Type 0 where
   pub touches : Touches old new
+  pub after_stop : ReadsAfterStop (HoldsNumbers transno numbers) old new
   pub counted : transno ≡ length numbers
   pub read : IsTrue old.honest → (image : List ℕ) × IsImage old.settled image × ((s : Saved) × (opened image ≡ Some s) × (numbers_in s.bytes ≡ Ok numbers) × IsSettled new s)
 
 -- a disk that couldn't be read for a fault: it has no image that it hadn't before
 pub record Unread (old new : Shown) : Type 0 where
   pub faulted : Faulted old new
+  pub after_stop : FailsToRead old new
   pub images : IsTrue old.honest → (image : List ℕ) → IsImage new.settled image → IsImage old.settled image
 
--- a disk that was read and doesn't open, or opens as what is no image
-pub record Damaged (old new : Shown) : Type 0 where
+-- a disk that was read and holds this: it doesn't open, or opens as what is no image
+pub record Damaged (P : List ℕ → Type 0) (old new : Shown) : Type 0 where
   pub touches : Touches old new
+  pub after_stop : ReadsAfterStop P old new
   pub cause : IsTrue old.honest → (image : List ℕ) × IsImage old.settled image × ((opened image ≡ None) ⊎ ((s : Saved) × (place : ℕ) × (opened image ≡ Some s) × (numbers_in s.bytes ≡ Err place)))
   pub images : IsTrue old.honest → (image : List ℕ) → IsImage new.settled image → IsImage old.settled image
+
+-- a disk that was formatted again
+pub record Reformatted (old new : Shown) : Type 0 where
+  pub formatted : Formatted old new
+  pub after_stop : FormatsAfterStop old new
+
+-- one that couldn't be
+pub record Unformatted (old new : Shown) : Type 0 where
+  pub faulted : Faulted old new
+  pub after_stop : FailsToFormat old new
 
 -- LINES OF THE SCENARIO
 
@@ -221,14 +216,14 @@ abbrev pub Starts : Shown → ℕ → Held → List Line → Type 0
 Starts disk target new ls =
     ((d : Shown) × (transno : ℕ) × (numbers : List ℕ) × Reopened disk d transno numbers × (new ≡ opened_on d) × (ls ≡ lines.Up target transno numbers ∷ []))
     ⊎ (((d : Shown) × Unread disk d × (new ≡ stopped true d) × (ls ≡ lines.Down target ∷ []))
-    ⊎ (((d : Shown) × (gates : ℕ) × Damaged disk d × (new ≡ stopped true d) × (ls ≡ lines.DamagedGates target gates ∷ []))
-    ⊎ ((d : Shown) × (place : ℕ) × Damaged disk d × (new ≡ stopped true d) × (ls ≡ lines.DamagedImage target place ∷ []))))
+    ⊎ (((d : Shown) × (gates : ℕ) × Damaged (HoldsNothing gates) disk d × (new ≡ stopped true d) × (ls ≡ lines.DamagedGates target gates ∷ []))
+    ⊎ ((d : Shown) × (place : ℕ) × Damaged (HoldsBadImage place) disk d × (new ≡ stopped true d) × (ls ≡ lines.DamagedImage target place ∷ []))))
 
 -- one whose formatting failed is formatted again
 abbrev pub Reformats : Shown → ℕ → Held → List Line → Type 0
 Reformats disk target new ls =
-    ((d : Shown) × Formatted disk d × (new ≡ opened_on d) × (ls ≡ lines.Up target 0 [] ∷ []))
-    ⊎ ((d : Shown) × Faulted disk d × (new ≡ stopped false d) × (ls ≡ lines.Down target ∷ []))
+    ((d : Shown) × Reformatted disk d × (new ≡ opened_on d) × (ls ≡ lines.Up target 0 [] ∷ []))
+    ⊎ ((d : Shown) × Unformatted disk d × (new ≡ stopped false d) × (ls ≡ lines.Down target ∷ []))
 
 abbrev pub Restarts : Standing → Bool → ℕ → Held → Held → List Line → Type 0
 Restarts Serving formatted target old new ls = (new ≡ old) × (ls ≡ lines.State target Serving ∷ [])

@@ -1,3 +1,4 @@
+pub mod Disks
 pub mod Image
 pub mod Kept
 pub mod Restart

@@ -1,5 +1,5 @@
--- How far a player has come, for its own contracts.
-use Rattle.std.specs.Prelude.{◌≡◌, ◌≢◌, ◌<◌, ◌≤◌, ◌⊎◌, ◌+◌, ◌==◌, max, length, take, ℕ, true, false, IsTrue, List, [], ◌∷◌, ◌++◌, Option, Some, None, IfSome, if◌then◌else◌}
+-- How far a session has come, for its own contracts.
+use Rattle.std.specs.Prelude.{◌≡◌, ◌≢◌, ◌<◌, ◌≤◌, ◌⊎◌, ◌+◌, ◌==◌, max, length, take, ℕ, Bool, true, false, IsTrue, List, [], ◌∷◌, ◌++◌, Option, Some, None, IfSome, if◌then◌else◌}
 use Rattle.std.specs.List.{AllByRecursion}
 use Rattle.outside.specs.Disk.{Shown, IsImage}
 use Rattle.target_disk.specs.Slots.{opened}
@@ -15,12 +15,9 @@ use Rattle.scenario_text.specs.declared.line.Standing.{Standing}
 use Rattle.scenario_text.specs.declared.line.Standing.TheVariants.{Serving, Opened, Down}
 use Rattle.dne_cli.specs.Image.{items_bytes, image_of}
 use Rattle.dne_cli.specs.Kept.{Kept, Held, Ledger, Does, is_used, seat_of, standing_of}
-use Rattle.scenario_text.specs.Refusals.{refusal}
+use Rattle.line_player.specs.Played.{Rules, rules_of}
+use Rattle.dne_cli.specs.Disks.{Touches, made_all}
 use Rattle.dne_cli.specs.Transcript.{Place}
-use Rattle.dne_cli.specs.declared.status.Stop.{Stop}
-use Rattle.dne_cli.specs.declared.status.Stop.TheVariants as stops
-use Rattle.outside.specs.declared.status.Status.{Status}
-use Rattle.outside.specs.declared.status.Status.TheVariants as statuses
 
 -- the greatest number of a client in a history, or 0
 abbrev pub greatest : ℕ → List Item → ℕ
@@ -105,13 +102,11 @@ pub record Agrees (s : State) (said : List Line) (lines : ℕ) (k : Kept) : Type
   pub few : length s.history + length k.waiting ≤ lines
   pub holds : HoldsSame s lines k.target
 
--- a player has come to this place: so many ended lines, a rest, and so many bytes in all
-pub record Reached (first : Shown) (bytes text : List ℕ) (k : Kept) (rest : List ℕ) (count total : ℕ) : Type 0 where
-  pub place : Place first k.target.disk bytes text
-  pub same : place.rest ≡ rest
-  pub counted : length place.groups ≡ count
-  pub measured : length bytes ≡ total
-  pub agrees : Agrees place.state (lines_of place.groups) count k
+-- a session has come to this place
+pub record Reached (first : Shown) (lines : List (List ℕ)) (text : List ℕ) (k : Kept) : Type 0 where
+  pub place : Place first k.target.disk lines text
+  pub made : made_all false place.groups ≡ k.target.formatted
+  pub agrees : Agrees place.state (lines_of place.groups) (length lines) k
 
 -- a line that is skipped, or a command that has a spelling
 abbrev pub IsSpelled : Option ℕ → Entry → Type 0
@@ -130,20 +125,15 @@ Takes old new line more = (e : Entry) × (ls : List Line) × Stands old e × (li
 abbrev pub IsBad : Kept → List ℕ → Type 0
 IsBad k line = (e : Entry) → Stands k e → line ≢ line_of e
 
--- what is written of a whole text where a run stops with it
-abbrev pub Told : Stop → List ℕ → List ℕ → Type 0
-Told stops.Refused whole more = more ≡ whole
-Told stops.Memory whole more = more ≡ []
-Told stops.Sink whole more = (rest : List ℕ) × (whole ≡ more ++ rest)
+-- what the rules of a session are
+abbrev pub session_takes : Kept → List ℕ → Kept → List ℕ → Type 0
+session_takes old line new more = Takes old new line more × Touches old.target.disk new.target.disk
 
--- what a player answers at a line, from a session to a session
-abbrev pub StopsAt : Stop → Kept → Kept → List ℕ → ℕ → List ℕ → Type 0
-StopsAt stops.Refused k now line count more = IsBad k line × (now ≡ k) × (more ≡ refusal (count + 1))
-StopsAt stops.Memory k now line count more = more ≡ []
-StopsAt stops.Sink k now line count more = (whole : List ℕ) × (rest : List ℕ) × (whole ≡ more ++ rest)
-    × (Takes k now line whole ⊎ (IsBad k line × (now ≡ k) × (whole ≡ refusal (count + 1))))
+abbrev pub session_leaves : Kept → Kept → Type 0
+session_leaves old new = Touches old.target.disk new.target.disk
 
-abbrev pub status_of : Stop → Status
-status_of stops.Refused = statuses.Refused
-status_of stops.Memory = statuses.Memory
-status_of stops.Sink = statuses.Sink
+abbrev pub session_ended : Kept → Bool
+session_ended k = k.ended
+
+abbrev pub session_rules : Kept → Kept → Rules
+session_rules old new = rules_of session_takes IsBad session_leaves session_ended old new

@@ -1,7 +1,8 @@
 -- What starting a target from its disk does, and what a target is seen as.
-use Rattle.std.specs.Prelude.{◌≡◌, ℕ, List, Result, Err}
-use Rattle.outside.specs.Disk.{Shown}
-use Rattle.dne_cli.specs.Kept.{Held, Touches, Damaged, Unread, stopped, opened_on, serving_on}
+use Rattle.std.specs.Prelude.{◌≡◌, ℕ, List, Option, Result, Err}
+use Rattle.outside.specs.Disk.{Fuse, Shown}
+use Rattle.dne_cli.specs.Disks.{HoldsBadImage, HoldsNothing, Touches}
+use Rattle.dne_cli.specs.Kept.{Held, Damaged, Unread, stopped, opened_on, serving_on}
 use Rattle.dne_cli.specs.declared.image.ImageFault.{ImageFault}
 use Rattle.dne_cli.specs.declared.image.ImageFault.TheVariants as image_fault
 use Rattle.dne_cli.specs.declared.target.Target.{Target}
@@ -17,8 +18,8 @@ BadAt image_fault.Memory read = Unit {0}
 -- each answer other than Ok of a start, with the disk that it gives back
 abbrev pub FailsToReopen : {D : Type 0} → (D → Shown) → Shown → ReopenFault D → Type 0
 FailsToReopen shown old (reopen_fault.Disk disk) = Unread old (shown disk)
-FailsToReopen shown old (reopen_fault.Gates disk gates) = Damaged old (shown disk)
-FailsToReopen shown old (reopen_fault.Image disk place) = Damaged old (shown disk)
+FailsToReopen shown old (reopen_fault.Gates disk gates) = Damaged (HoldsNothing gates) old (shown disk)
+FailsToReopen shown old (reopen_fault.Image disk place) = Damaged (HoldsBadImage place) old (shown disk)
 FailsToReopen shown old (reopen_fault.Memory disk) = Touches old (shown disk)
 
 -- a target as contracts see it
@@ -26,3 +27,9 @@ abbrev pub held_of : {D : Type 0} → (D → Shown) → Target D → Held
 held_of shown (targets.Serving served) = serving_on served.ledger (shown served.store)
 held_of shown (targets.Opened store) = opened_on (shown store)
 held_of shown (targets.Down halted) = stopped halted.formatted (shown halted.disk)
+
+-- the fuse of a target's disk, where it has one
+abbrev pub fuse_of : {D : Type 0} → (D → Option Fuse) → Target D → Option Fuse
+fuse_of fuse (targets.Serving served) = fuse served.store
+fuse_of fuse (targets.Opened store) = fuse store
+fuse_of fuse (targets.Down halted) = fuse halted.disk

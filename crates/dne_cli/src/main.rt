@@ -10,9 +10,7 @@ ghost use Rattle.std.specs.Prelude.{◌≡◌, vec_len, IfOk};
 mod image;
 mod ledger;
 mod modes;
-mod player;
 mod session;
-mod status;
 mod store;
 mod target;
 #[cfg(test)]

@@ -4,13 +4,15 @@ ghost use Rattle.scenario_text.specs.Machine.{MayCome};
 ghost use Rattle.scenario_text.specs.LineText.{texts};
 ghost use Rattle.scenario_text.specs.declared.command.Command.{Command};
 ghost use Rattle.scenario_text.specs.declared.line.Line.{Line};
-ghost use Rattle.dne_cli.specs.Kept.{Does, is_used, no_flags, nothing_kept, Obeys, Touches, tree_lines, turned_away};
-ghost use Rattle.dne_cli.specs.Reached.{IsBad, Stands};
+ghost use Rattle.dne_cli.specs.Disks.{Touches};
+ghost use Rattle.dne_cli.specs.Kept.{Does, is_used, no_flags, nothing_kept, Obeys, tree_lines, turned_away};
+ghost use Rattle.dne_cli.specs.Reached.{IsBad, Stands, session_ended, session_leaves, session_takes};
 
 use crate::ledger::Ledger;
 use crate::target::{Halted, Target};
 use crate::turns::{commit_target, crash_target, end_target, found_target, restart_target};
 use fid_space::{Bytes, Cluster};
+use line_player::LineRunner;
 use outside::Plant;
 use scenario_text::{Command, TextFault, is_skipped, print_recovering, print_tree_state};
 use std::alloc::{AllocError as Memory, Global};
@@ -69,13 +71,6 @@ impl<D: Plant> Session<D> {
             }),
             Err(_) => Err(disk),
         }
-    }
-
-    /// Whether `end` was read.
-    pub fn has_ended(&self) -> bool
-        ensures { result ≡ self.now.ended }
-    {
-        self.ended
     }
 
     /// Gives the disk back.
@@ -264,7 +259,7 @@ impl<D: Plant> Session<D> {
 
     /// Runs a line, and adds what it prints. A refused line changes nothing; after want of memory the
     /// session can only give its disk back.
-    pub fn run_line(&mut self, line: &[u8], out: &mut Bytes) -> Result<(), TextFault>
+    fn run_line(&mut self, line: &[u8], out: &mut Bytes) -> Result<(), TextFault>
         ensures ok { OnOk result ((e : Entry) × (ls : List Line) × Stands self.old e × (line.now ≡ line_of e)
             × Does self.old e self.new ls × (out.new ≡ out.old ++ texts ls)) }
         ensures refused { result ≡ Err TextFault.NotYet → IsBad self.old line.now }
@@ -300,6 +295,24 @@ impl<D: Plant> Session<D> {
             return Err(TextFault::NotYet);
         }
         Ok(())
+    }
+}
+
+impl<D: Plant> LineRunner for Session<D> {
+    ghost takes = { session_takes };
+
+    ghost refuses = { IsBad };
+
+    ghost leaves = { session_leaves };
+
+    ghost ended = { session_ended };
+
+    fn take_line(&mut self, line: &[u8], out: &mut Bytes) -> Result<(), TextFault> {
+        self.run_line(line, out)
+    }
+
+    fn has_ended(&self) -> bool {
+        self.ended
     }
 }
 

@@ -1,7 +1,7 @@
 ghost use Rattle.std.specs.Prelude.{◌≡◌, vec_len, IfNone, IfOk};
 
 use outside::FileDisk;
-use std::fs::File;
+use std::fs::{self, File};
 use std::io::{self, ErrorKind};
 use std::rt::Files;
 
@@ -37,12 +37,21 @@ fn open_file(rt: &HostRuntime, path: &str) -> io::Result<File> {
     let mut options = File::options();
     options.read(true).write(true);
     match options.open(rt, path) {
-        Err(error) if error.kind() == ErrorKind::NotFound => {
-            options.create_new(true);
-            let file = options.open(rt, path)?;
-            file.set_len(DISK_LEN)?;
-            Ok(file)
-        }
+        Err(error) if error.kind() == ErrorKind::NotFound => make_file(rt, path),
         outcome => outcome,
+    }
+}
+
+/// Makes the file of a disk. One that can't have its length goes again.
+fn make_file(rt: &HostRuntime, path: &str) -> io::Result<File> {
+    let mut options = File::options();
+    options.read(true).write(true).create_new(true);
+    let file = options.open(rt, path)?;
+    match file.set_len(DISK_LEN) {
+        Ok(()) => Ok(file),
+        Err(error) => {
+            let _ = fs::remove_file(rt, path);
+            Err(error)
+        }
     }
 }

@@ -1,10 +1,11 @@
 //! A target: it serves, or was opened, or is down. Each step takes it and gives what it has become.
-ghost use Rattle.std.specs.Prelude.{◌≡◌, ◌≤◌, ◌+◌, [], length, false, true, IfOk, IfErr, is_some};
+ghost use Rattle.std.specs.Prelude.{◌≡◌, ◌≤◌, ◌+◌, [], length, false, true, IfOk, IfErr, OnSome, Some, None, is_some};
 ghost use Rattle.target_disk.specs.Slots.{slot_len};
-ghost use Rattle.outside.specs.Disk.{Stays};
+ghost use Rattle.outside.specs.Disk.{Fuse};
 ghost use Rattle.dne_cli.specs.Image.{image_of};
-ghost use Rattle.dne_cli.specs.Kept.{all_stable, Committed, Faulted, Formatted, image_bytes, Reopened, standing_of, Torn};
-ghost use Rattle.dne_cli.specs.Restart.{FailsToReopen, held_of};
+ghost use Rattle.dne_cli.specs.Disks.{Faulted, Formatted};
+ghost use Rattle.dne_cli.specs.Kept.{all_stable, Committed, image_bytes, Reformatted, Reopened, standing_of, Torn, Unformatted};
+ghost use Rattle.dne_cli.specs.Restart.{FailsToReopen, fuse_of, held_of};
 
 use crate::image::{ImageFault, read_numbers};
 use crate::ledger::Ledger;
@@ -64,9 +65,11 @@ impl<D: Plant> Target<D> {
         }
     }
 
-    /// Arms the disk, where it has a fuse.
+    /// Arms the disk, where it has a fuse, and changes nothing else.
     pub fn arm(&mut self, after: u32, choice: u8)
-        ensures { held_of D.shown self.new ≡ held_of D.shown self.old }
+        ensures held { held_of D.shown self.new ≡ held_of D.shown self.old }
+        ensures set { OnSome (fuse_of D.fuse self.old) (fuse_of D.fuse self.new ≡ Some (record { left = Some after; choice = choice })) }
+        ensures none { fuse_of D.fuse self.old ≡ None → fuse_of D.fuse self.new ≡ None }
     {
         match self {
             Target::Serving(served) => served.store.arm(after, choice),
@@ -147,8 +150,8 @@ pub fn reopen<D: Plant>(alloc: Global, disk: D) -> Result<(Store<D>, Numbers), R
 /// Formats again a disk whose formatting failed: it stops what it was doing first.
 pub fn reformat<D: Plant>(alloc: Global, disk: D, image: &[u8]) -> Result<Store<D>, D>
     requires { image.now ≡ image_of [] }
-    ensures ok { IfOk result (λ s. Formatted (D.shown disk) (D.shown s)) }
-    ensures err { IfErr result (λ d. Faulted (D.shown disk) (D.shown d)) }
+    ensures ok { IfOk result (λ s. Reformatted (D.shown disk) (D.shown s)) }
+    ensures err { IfErr result (λ d. Unformatted (D.shown disk) (D.shown d)) }
 {
     let mut disk = disk;
     if disk.power_cycle().is_err() {

@@ -2,11 +2,13 @@ ghost use Rattle.std.specs.Prelude.{◌≡◌, vec_len};
 
 use crate::store::open_disks;
 use crate::{dne_main, memory_disks};
-use outside::{MemoryDisk, Plant, TextSink, TextSource};
+use fid_space::Bytes;
+use outside::{FileDisk, MemoryDisk, Plant, Source, TextSink, TextSource};
 use scenario_text::{empty_transcript, first_transcript};
 use std::alloc::Global;
+use std::fs::{self, File};
 use std::test::Fail;
-use std::{env, fs, process};
+use std::{env, process};
 use target_disk::Store;
 
 const ROOT: &str = "[0x200000007:0x1:0x0]";
@@ -92,75 +94,29 @@ fn writes_what_the_definitions_compute(rt: HostRuntime) -> Result<(), Fail> {
 }
 
 #[test]
-fn refusals_of_create(rt: HostRuntime) -> Result<(), Fail> {
-    let alloc = rt.alloc();
-    let rows: [(&str, &str, &str, &str); 6] = [
-        // a FID whose object id no client gives
-        (ROOT, "x", "[0x200000400:0x0:0x0]", "EINVAL"),
-        // a FID of a sequence that no client owns
-        (ROOT, "x", "[0x200008400:0x1:0x0]", "EINVAL"),
-        // a parent that is absent
-        ("[0x200000400:0x9:0x0]", "x", B, "ENOENT"),
-        // a parent that is a file
-        (A, "x", B, "ENOTDIR"),
-        // a name that is taken
-        (ROOT, "a", B, "EEXIST"),
-        // a node that is there
-        (ROOT, "b", A, "EEXIST"),
-    ];
-    for (parent, name, fid, errno) in rows {
-        let text = format!(in alloc;
-            "cluster 1\nsend 1 0 create {ROOT} a {A}\nsend 2 1 create {parent} {name} {fid}\nsettle\nend\n"
-        )?;
-        let want = format!(in alloc;
-            "accept 1 OK on 0\nreply 1 OK\naccept 2 {errno} on 0\nreply 2 {errno}\nstable 0 1,2\nend clean\n"
-        )?;
-        let (got, output) = run(alloc, "play", text.as_bytes(), &[], &[])?;
-        assert_eq!(rt; got, 0, "{errno}");
-        assert_eq!(rt; output.bytes(), want.as_bytes(), "{errno}");
-    }
-    Ok(())
-}
-
-#[test]
 fn refused_lines(rt: HostRuntime) -> Result<(), Fail> {
     let alloc = rt.alloc();
-    let send = format!(in alloc; "cluster 1\nsend 2 0 create {ROOT} a {A}\n")?;
-    let used = format!(in alloc; "{send}send 2 0 create {ROOT} b {B}\nend\n")?;
+    let used = format!(in alloc;
+        "cluster 1\nsend 2 0 create {ROOT} a {A}\nsend 2 0 create {ROOT} b {B}\nend\n"
+    )?;
     let unspelled = format!(in alloc; "cluster 1\nsend 1 0 create {ROOT} %4a {A}\n")?;
     let no_target = format!(in alloc;
         "cluster 1\nsend 1 0 create {ROOT} a [0x200100400:0x1:0x0]\n"
     )?;
-    let escaped = format!(in alloc; "cluster 1\nsend 1 0 create {ROOT} %41 {A}\n")?;
-    let early = format!(in alloc; "send 1 0 create {ROOT} a {A}\n")?;
-    let rows: [(&str, &str); 18] = [
+    let rows: [(&str, &str); 10] = [
         (used.as_str(), "line 3: NotYet\n"),
         (unspelled.as_str(), "line 2: NotYet\n"),
         (no_target.as_str(), "line 2: NotYet\n"),
-        (escaped.as_str(), "line 2: NotYet\n"),
-        (early.as_str(), "line 1: NotYet\n"),
-        (
-            "cluster 1\nend\ntree\n",
-            "stable 0 -\nend clean\nline 3: NotYet\n",
-        ),
         (
             "cluster 1\nend\n\n",
             "stable 0 -\nend clean\nline 3: NotYet\n",
         ),
-        (
-            "cluster 1\nend\n# x\n",
-            "stable 0 -\nend clean\nline 3: NotYet\n",
-        ),
         ("commit 0\n", "line 1: NotYet\n"),
-        ("cluster 1\ncommit 1\n", "line 2: NotYet\n"),
         ("cluster 1\ncrash 00\n", "line 2: NotYet\n"),
-        ("cluster 1\nfuse 0 1000001 0\n", "line 2: NotYet\n"),
         ("cluster 1\nfuse 0 1 256\n", "line 2: NotYet\n"),
         ("cluster 1\r\nend\r\n", "line 1: NotYet\n"),
-        ("cluster 1 1\nend\n", "line 1: NotYet\n"),
-        ("cluster 1\nsettle now\nend\n", "line 2: NotYet\n"),
-        ("cluster 1\nfuse 0 1\n", "line 2: NotYet\n"),
         ("cluster 1\ncluster 1\nend", "line 2: NotYet\n"),
+        ("\n#", "line 3: NoEnd\n"),
     ];
     for (text, want) in rows {
         let (got, output) = run(alloc, "play", text.as_bytes(), &[], &[])?;
@@ -183,14 +139,30 @@ fn long_lines_and_other_bytes(rt: HostRuntime) -> Result<(), Fail> {
     Ok(())
 }
 
+/// Behind a line that is refused no more than a read's bytes are taken.
 #[test]
-fn other_words(rt: HostRuntime) -> Result<(), Fail> {
+fn bytes_behind_a_refused_line(rt: HostRuntime) -> Result<(), Fail> {
     let alloc = rt.alloc();
-    for word in ["", "Play", "play ", "--help", "plays"] {
-        let (got, output) = run(alloc, word, b"cluster 1\nend\n", &[], &[])?;
-        assert_eq!(rt; got, 2, "{word}");
-        assert_eq!(rt; output.bytes(), b"words: BadWords\n".as_slice(), "{word}");
+    let mut text = Bytes::new(alloc);
+    text.append(b"cluster 1\nsned\n")?;
+    let empty = vec![in alloc; b'\n'; 200_000]?;
+    text.append(empty.as_slice())?;
+    let words = vec![in alloc; String::from_str(alloc, "play")?]?;
+    let mut disks = memory_disks(alloc)?;
+    let mut input = TextSource::new(alloc, text.bytes(), &[])?;
+    let mut output = TextSink::new(alloc, &[])?;
+    let status = dne_main(alloc, words.as_slice(), &mut input, &mut output, &mut disks);
+    assert_eq!(rt; status, 2);
+    assert_eq!(rt; output.bytes(), b"line 2: NotYet\n".as_slice());
+    let mut left = 0;
+    let mut buffer = vec![in alloc; 0u8; 65_536]?;
+    for _ in 0..4 {
+        match input.read(buffer.as_mut_slice()) {
+            Ok(count) => left = count.saturating_add(left),
+            Err(_) => return Err(Fail::from("a read")),
+        }
     }
+    assert!(rt; left >= 134_000);
     Ok(())
 }
 
@@ -214,90 +186,6 @@ fn failing_input_and_output(rt: HostRuntime) -> Result<(), Fail> {
         let (got, output) = run(alloc, "play", text.as_bytes(), bad_reads, bad_writes)?;
         assert_eq!(rt; got, status);
         assert_eq!(rt; output.bytes(), want.as_bytes());
-    }
-    Ok(())
-}
-
-/// Empty lines and comments are skipped and counted; a name's escapes are read and written.
-#[test]
-fn skipped_lines_and_escapes(rt: HostRuntime) -> Result<(), Fail> {
-    let alloc = rt.alloc();
-    let text = format!(in alloc; "# a comment\n\ncluster 1\n#\nsend 1 0 create {ROOT} %00 {A}\n")?;
-    let spelled = format!(in alloc;
-        "\ncluster 1\nsend 1 0 create {ROOT} a%20%25%ff {A}\nsettle\n\ntree\nend"
-    )?;
-    let want = format!(in alloc;
-        "accept 1 OK on 0\nreply 1 OK\ntree 2 1\nnode {ROOT} dir 0755 0 0 2\nnode {A} file 0644 0 0 1\nentry {ROOT} a%20%25%ff {A}\nstable 0 1\nend clean\n"
-    )?;
-    let rows: [(&str, &str, u8); 4] = [
-        (text.as_str(), "line 5: NotYet\n", 2),
-        (spelled.as_str(), want.as_str(), 0),
-        ("\n#", "line 3: NoEnd\n", 2),
-        ("\n", "line 2: NoEnd\n", 2),
-    ];
-    for (text, want, status) in rows {
-        let (got, output) = run(alloc, "play", text.as_bytes(), &[], &[])?;
-        assert_eq!(rt; got, status, "{text}");
-        assert_eq!(rt; output.bytes(), want.as_bytes(), "{text}");
-    }
-    Ok(())
-}
-
-/// A client's lower number that comes behind a higher one is late; another client's isn't.
-#[test]
-fn late_requests(rt: HostRuntime) -> Result<(), Fail> {
-    let alloc = rt.alloc();
-    let rows: [(u8, &str); 2] = [
-        (
-            0,
-            "accept 2 OK on 0\nreply 2 OK\nstale 1 last 2\nstable 0 2\nend clean\n",
-        ),
-        (
-            1,
-            "accept 2 OK on 0\nreply 2 OK\naccept 1 OK on 0\nreply 1 OK\nstable 0 2,1\nend clean\n",
-        ),
-    ];
-    for (client, want) in rows {
-        let text = format!(in alloc;
-            "cluster 1\nsend 2 0 create {ROOT} a {A}\nsend 1 {client} create {ROOT} b {B}\nsettle\nend\n"
-        )?;
-        let (got, output) = run(alloc, "play", text.as_bytes(), &[], &[])?;
-        assert_eq!(rt; got, 0, "{client}");
-        assert_eq!(rt; output.bytes(), want.as_bytes(), "{client}");
-    }
-    Ok(())
-}
-
-/// What was committed is there after a crash; a target that was only opened takes no request.
-#[test]
-fn crash_and_restart(rt: HostRuntime) -> Result<(), Fail> {
-    let alloc = rt.alloc();
-    let first = format!(in alloc; "cluster 1\nsend 1 0 create {ROOT} a {A}\nsettle\ncommit 0\n")?;
-    let began = "accept 1 OK on 0\nreply 1 OK\nstable 0 1\ndown 0\n";
-    let rows: [(&str, &str); 4] = [
-        (
-            "crash 0\nrestart 0\ntree\nend\n",
-            "up 0 transno 1 holds 1\ntree state 0\nend unclean target 0\n",
-        ),
-        (
-            "crash 0\ncrash 0\ncommit 0\ntree\nend\n",
-            "state 0 down\nstate 0 down\ntree state 0\nend unclean target 0\n",
-        ),
-        (
-            "crash 0\nrestart 0\nrestart 0\ncommit 0\ncrash 0\nrestart 0\nend\n",
-            "up 0 transno 1 holds 1\nstate 0 opened\nstate 0 opened\ndown 0\nup 0 transno 1 holds 1\nend unclean target 0\n",
-        ),
-        (
-            "crash 0\nsend 2 0 create [0x200000007:0x1:0x0] b [0x200000400:0x2:0x0]\nsettle\nend\n",
-            "recovering 2 target 0\nend unclean target 0\n",
-        ),
-    ];
-    for (rest, ends) in rows {
-        let text = format!(in alloc; "{first}{rest}")?;
-        let want = format!(in alloc; "{began}{ends}")?;
-        let (got, output) = run(alloc, "play", text.as_bytes(), &[], &[])?;
-        assert_eq!(rt; got, 0, "{rest}");
-        assert_eq!(rt; output.bytes(), want.as_bytes(), "{rest}");
     }
     Ok(())
 }
@@ -354,7 +242,7 @@ fn failing_disks(rt: HostRuntime) -> Result<(), Fail> {
     Ok(())
 }
 
-/// The files that a store of disks leaves are read back, and hold what was committed.
+/// The files that a store of disks leaves have their names and lengths, and the first has what was committed.
 #[test]
 fn files_are_read_back(rt: HostRuntime) -> Result<(), Fail> {
     let alloc = rt.alloc();
@@ -376,8 +264,16 @@ fn files_are_read_back(rt: HostRuntime) -> Result<(), Fail> {
         b"accept 1 OK on 0\nreply 1 OK\nstable 0 1\ndown 0\nup 0 transno 1 holds 1\nend unclean target 0\n".as_slice()
     );
     drop(disks);
-    let mut again = open_disks(&rt, name)?;
-    match Store::open(alloc, again.remove(0)) {
+    for index in 0..16u8 {
+        let file = format!(in alloc; "{name}/disk{index}")?;
+        assert_eq!(rt; fs::metadata(&rt, file.as_str())?.len(), 67_108_864);
+    }
+    let first = format!(in alloc; "{name}/disk0")?;
+    let file = File::options()
+        .read(true)
+        .write(true)
+        .open(&rt, first.as_str())?;
+    match Store::open(alloc, FileDisk::new(file)) {
         Ok((_store, image)) => {
             assert_eq!(rt; image.bytes().len(), 8 + 48 + 1);
             assert_eq!(rt;

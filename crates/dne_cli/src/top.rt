@@ -1,10 +1,10 @@
-ghost use Rattle.std.specs.Prelude.{◌≡◌, ◌≢◌, ◌++◌, ◌⊎◌, ◌↔◌, ◌<◌, ◌≤◌, ◌-◌, ◌∷◌, Some, IsTrue, ℕ, List, length, map};
+ghost use Rattle.std.specs.Prelude.{◌≡◌, ◌≢◌, ◌⊎◌, ◌≤◌, ◌∷◌, Some, ℕ, List, length, map};
 ghost use Rattle.std.specs.Io.KnownBytes.{Appends, Consumes, IsAtEnd};
 ghost use Rattle.outside.specs.Causes.{Rose};
 ghost use Rattle.outside.specs.Disk.{Shown};
-ghost use Rattle.dne_cli.specs.Kept.{Touches};
+ghost use Rattle.line_player.specs.Played.{StopsNear};
+ghost use Rattle.dne_cli.specs.Disks.{Touches};
 ghost use Rattle.dne_cli.specs.Transcript.{Outcome, IsScenario};
-ghost use Rattle.dne_cli.specs.Reached.{Reached};
 ghost use Rattle.dne_cli.specs.Words.{IsPlay, IsModel, IsDecodeRequest, IsDecodeRecord, IsDecodeLog, IsOther, Answers, all_bytes};
 ghost use Rattle.model_mode.specs.Outcome.{Outcome as RunsPlainly, IsScenario as IsPlainScenario};
 ghost use Rattle.decode_mode.specs.Requests.{AnswersRequest};
@@ -14,44 +14,12 @@ ghost use Rattle.outside.specs.Status.{code_of};
 ghost use Rattle.outside.specs.declared.status.Status.{Status};
 
 use crate::modes::{Mode, answer, mode_of};
-use crate::player::Player;
-use crate::status::status_of;
+use crate::session::Session;
 use decode_mode::{decode_log, decode_record, decode_request};
+use line_player::play_lines;
 use model_mode::play_model;
 use outside::{Plant, Sink, Source, Status};
 use std::alloc::Global;
-
-/// How many bytes are read at once.
-const PIECE: usize = 65_536;
-
-/// Reads all that the input has and plays it.
-fn read_all<I: Source, O: Sink, D: Plant>(
-    player: &mut Player<D>,
-    buffer: &mut [u8],
-    input: &mut I,
-    output: &mut O,
-) -> Status
-    requires { 0 < length buffer.old }
-    ensures touches { Touches player.old.session.target.disk player.new.session.target.disk }
-    ensures outcome { (first : Shown) (bytes text : List ℕ)
-        → Reached first bytes text player.old.session player.old.rest player.old.count player.old.total
-        → (read : List ℕ) × (more : List ℕ) × Consumes (I.left input.old) (I.left input.new) read
-        × Appends (O.written output.old) (O.written output.new) more
-        × Outcome (IsAtEnd (I.left input.new)) first player.new.session.target.disk result (bytes ++ read) (text ++ more) }
-    ensures source { result ≡ Status.Source → Rose (I.source_faults input.old) (I.source_faults input.new) }
-    ensures sink { result ≡ Status.Sink → Rose (O.sink_faults output.old) (O.sink_faults output.new) }
-{
-    loop {
-        match input.read(buffer) {
-            Err(_) => return Status::Source,
-            Ok(0) => return player.finish(output),
-            Ok(count) => match player.feed(&buffer[..count], output) {
-                Ok(()) => {}
-                Err(stop) => return status_of(stop),
-            },
-        }
-    }
-}
 
 /// Plays the scenario that the input has over a disk, and gives the disk back.
 fn play<I: Source, O: Sink, D: Plant>(
@@ -67,16 +35,12 @@ fn play<I: Source, O: Sink, D: Plant>(
     ensures source { result.0 ≡ Status.Source → Rose (I.source_faults input.old) (I.source_faults input.new) }
     ensures sink { result.0 ≡ Status.Sink → Rose (O.sink_faults output.old) (O.sink_faults output.new) }
 {
-    let mut buffer = match vec![in alloc; 0u8; PIECE] {
-        Ok(buffer) => buffer,
-        Err(_) => return (Status::Memory, disk),
-    };
-    let mut player = match Player::new(alloc, disk) {
-        Ok(player) => player,
+    let mut session = match Session::new(alloc, disk) {
+        Ok(session) => session,
         Err(disk) => return (Status::Memory, disk),
     };
-    let status = read_all(&mut player, buffer.as_mut_slice(), input, output);
-    (status, player.into_disk())
+    let status = play_lines(alloc, &mut session, input, output);
+    (status, session.into_disk())
 }
 
 /// Plays over the first of the disks, which comes back to its place.
@@ -126,6 +90,13 @@ pub fn dne_main<I: Source, O: Sink, D: Plant>(
     ensures complete { IsPlay words.now → (bytes : List ℕ) → I.left input.old ≡ Some bytes → IsScenario bytes
         → ¬ Rose (I.source_faults input.old) (I.source_faults input.new)
         → ¬ Rose (O.sink_faults output.old) (O.sink_faults output.new) → (result ≡ 0) ⊎ (result ≡ 3) }
+    // Where a line is refused, at most 65,536 bytes behind it were read, or behind its byte 16,385.
+    ensures near { IsPlay words.now → result ≡ 2 → (read : List ℕ) × (more : List ℕ)
+        × Consumes (I.left input.old) (I.left input.new) read × Appends (O.written output.old) (O.written output.new) more
+        × StopsNear (IsAtEnd (I.left input.new)) read more }
+    ensures near_model { IsModel words.now → result ≡ 2 → (read : List ℕ) × (more : List ℕ)
+        × Consumes (I.left input.old) (I.left input.new) read × Appends (O.written output.old) (O.written output.new) more
+        × StopsNear (IsAtEnd (I.left input.new)) read more }
     // What was written is the transcript of the plain tree over the bytes that were read.
     ensures model { IsModel words.now → (status : Status) × (result ≡ code_of status) × (read : List ℕ) × (more : List ℕ)
         × Consumes (I.left input.old) (I.left input.new) read × Appends (O.written output.old) (O.written output.new) more

@@ -4,7 +4,8 @@ ghost use Rattle.std.specs.Prelude.{◌≡◌, ◌≤◌, ◌++◌, ◌∷◌, [
 ghost use Rattle.scenario_text.specs.LineText.{texts};
 ghost use Rattle.scenario_text.specs.declared.line.Line.{Line};
 ghost use Rattle.dne_cli.specs.Image.{image_of};
-ghost use Rattle.dne_cli.specs.Kept.{Commits, Crashes, Ends, Founds, image_bytes, Reformats, Restarts, standing_of, Starts, stopped, Touches, empty_ledger};
+ghost use Rattle.dne_cli.specs.Disks.{Touches};
+ghost use Rattle.dne_cli.specs.Kept.{Commits, Crashes, Ends, Founds, image_bytes, Reformats, Restarts, standing_of, Starts, stopped, empty_ledger};
 ghost use Rattle.dne_cli.specs.Restart.{held_of};
 ghost use Rattle.dne_cli.specs.Session.{count_of};
 

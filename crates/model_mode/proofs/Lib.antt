@@ -1,6 +1,5 @@
-pub mod Flags
 pub mod Asks
-pub mod Sessions
-pub mod Stops
-pub mod Endings
 pub mod Complete
+pub mod Flags
+pub mod Places
+pub mod Sessions

@@ -8,7 +8,7 @@ use Rattle.scenario_text.proofs.OneSpelling.{one_command}
 use Rattle.scenario_text.proofs.OneLine.{not_skipped}
 use Rattle.model_mode.specs.Plain.{said_after}
 use Rattle.model_mode.specs.Kept.{Kept, cluster_of, is_used, kept_after}
-use Rattle.model_mode.specs.Reached.{IsBad, Stands}
+use Rattle.model_mode.specs.Reached.{IsBad, Stands, Takes}
 
 -- a line that is skipped
 pub skipped_ok : {T E : Type 0} (result : Result T E) (k : Kept) (line out : List ℕ) → IsSkipped line → OnOk result (k.ended ≡ false)
@@ -35,3 +35,9 @@ barred_bad k line c other fits spelled barred (Skip x) stands is = other (subst 
 barred_bad k line c other fits spelled barred (Order d) stands is =
     let same : d ≡ c = one_command (cluster_of k.tree) (cluster_of k.tree) d c stands.0 fits (sym is ∙ spelled) in
     barred (subst (λ x. MayCome (cluster_of k.tree) k.ended (is_used k.used) x) same stands.1)
+
+-- a line that was run is one step of the session's rules
+pub took : {T E : Type 0} (result : Result T E) (old new : Kept) (line out now : List ℕ) → OnOk result ((e : Entry) × Stands old e × (line ≡ line_of e) × (new ≡ kept_after old e) × (now ≡ out ++ said_after old.tree e))
+    → OnOk result ((more : List ℕ) × Takes old line new more × (now ≡ out ++ more))
+took (Ok x) old new line out now says = (said_after old.tree says.0, (says.0, says.1, says.2, says.3, refl), says.4)
+took (Err e) old new line out now says = tt

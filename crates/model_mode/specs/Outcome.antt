@@ -1,20 +1,17 @@
 -- What is written of a scenario that is run on the plain tree alone, by the status.
-use Rattle.std.specs.Prelude.{◌≡◌, ◌≢◌, ◌≤◌, ◌⊎◌, ◌+◌, ℕ, true, false, length, List, [], ◌∷◌, ◌++◌}
+use Rattle.std.specs.Prelude.{◌≡◌, ◌≢◌, ◌≤◌, ℕ, Bool, true, length, map, List}
 use Rattle.std.specs.List.{AllByRecursion}
 use Rattle.outside.specs.declared.status.Status.{Status}
-use Rattle.outside.specs.declared.status.Status.TheVariants.{Done, Refused, Memory, Source, Sink}
-use Rattle.scenario_text.specs.Refusals.{Closes, IsWhole, PassesLimit, refusal, no_end}
-use Rattle.scenario_text.specs.Spelling.{Entry, NoFeed, line_of}
+use Rattle.scenario_text.specs.Refusals.{Closes}
+use Rattle.scenario_text.specs.Spelling.{Entry, line_of}
 use Rattle.scenario_text.specs.Machine.{Asked, nothing_asked, AreNext, IsNext, asked_all, scenario}
+use Rattle.line_player.specs.Played.{Played, Rules}
 use Rattle.model_mode.specs.Plain.{plain_transcript}
 
--- A place: the bytes are what a scenario may have, each on a line, and the beginning of a line that hasn't
--- ended; the text is the transcript of these lines.
-pub record Place (bytes text : List ℕ) : Type 0 where
+-- A place: the lines are what a scenario may have, and the text is the transcript of these lines.
+pub record Place (lines : List (List ℕ)) (text : List ℕ) : Type 0 where
   pub entries : List Entry
-  pub rest : List ℕ
-  pub whole : bytes ≡ scenario entries ++ rest
-  pub partial : NoFeed rest
+  pub spelled : lines ≡ map line_of entries
   pub allowed : AreNext nothing_asked entries
   pub written : text ≡ plain_transcript entries
 
@@ -26,64 +23,18 @@ asked_at es = asked_all nothing_asked es
 abbrev pub IsBarred : Asked → List ℕ → Type 0
 IsBarred a line = (e : Entry) → IsNext a e → line ≢ line_of e
 
--- In what follows AtEnd says that the input has nothing left.
+-- what a player on the plain tree goes by
+abbrev pub model_rules : Rules
+model_rules = record {
+  ran = λ lines text. Place lines text;
+  ran_before = λ lines text. Place lines text;
+  refuses = λ lines text line. (p : Place lines text) × IsBarred (asked_at p.entries) line;
+  ends = λ over lines text. (p : Place lines text) × ((asked_at p.entries).ended ≡ over);
+}
 
--- The lines before it were run, and this line, which has begun, passes a limit, or is whole and spells
--- nothing that may come. The last thing written is its refusal.
-pub record RefusesLine (AtEnd : Type 0) (read text : List ℕ) : Type 0 where
-  pub done : List ℕ
-  pub before : List ℕ
-  pub place : Place done before
-  pub closed : place.rest ≡ []
-  pub line : List ℕ
-  pub feed : List ℕ
-  pub tail : List ℕ
-  pub split : read ≡ done ++ (line ++ (feed ++ tail))
-  pub one_line : NoFeed line
-  pub one_feed : (feed ≡ []) ⊎ (feed ≡ 10 ∷ [])
-  pub begun : line ++ feed ≢ []
-  pub cause : PassesLimit (length place.entries + 1) line (length done + length line + length feed)
-      ⊎ (IsWhole AtEnd line feed tail × IsBarred (asked_at place.entries) line)
-  pub written : text ≡ before ++ refusal (length place.entries + 1)
-
--- All lines were run, and none of them is `end`.
-pub record LacksEnd (AtEnd : Type 0) (read text : List ℕ) : Type 0 where
-  pub at_end : AtEnd
-  pub whole : List ℕ
-  pub before : List ℕ
-  pub closes : Closes AtEnd read whole
-  pub place : Place whole before
-  pub closed : place.rest ≡ []
-  pub open_end : (asked_at place.entries).ended ≡ false
-  pub written : text ≡ before ++ no_end (length place.entries + 1)
-
--- All lines were run, and the last of them is `end`.
-pub record Completes (AtEnd : Type 0) (read text : List ℕ) : Type 0 where
-  pub at_end : AtEnd
-  pub whole : List ℕ
-  pub closes : Closes AtEnd read whole
-  pub place : Place whole text
-  pub closed : place.rest ≡ []
-  pub ended : (asked_at place.entries).ended ≡ true
-
--- the transcript of the lines in a front of the bytes
-pub record RunsOver (AtEnd : Type 0) (read text : List ℕ) : Type 0 where
-  pub whole : List ℕ
-  pub closes : Closes AtEnd read whole
-  pub done : List ℕ
-  pub tail : List ℕ
-  pub split : whole ≡ done ++ tail
-  pub place : Place done text
-
--- what was written, by the status, over the bytes that were read
+-- what was written, by the status, over the bytes that were read; AtEnd says that the input has nothing left
 abbrev pub Outcome : Type 0 → Status → List ℕ → List ℕ → Type 0
-Outcome AtEnd Done read text = Completes AtEnd read text
-Outcome AtEnd Refused read text = RefusesLine AtEnd read text ⊎ LacksEnd AtEnd read text
-Outcome AtEnd Memory read text = RunsOver AtEnd read text
-Outcome AtEnd Source read text = Place read text
-Outcome AtEnd Sink read text =
-    (more : List ℕ)
-    × (RunsOver AtEnd read (text ++ more) ⊎ (RefusesLine AtEnd read (text ++ more) ⊎ LacksEnd AtEnd read (text ++ more)))
+Outcome AtEnd status read text = Played model_rules AtEnd status read text
 
 -- A scenario in the grammar and inside the limits: what may stand on one line after another, the last of
 -- them `end`.

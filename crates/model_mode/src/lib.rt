@@ -6,9 +6,7 @@
 //! come, and a scenario in the grammar comes to its end.
 #![tactic(auto)]
 
-mod player;
 mod session;
-mod stop;
 mod top;
 
 pub use top::play_model;

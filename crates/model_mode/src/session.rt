@@ -4,9 +4,10 @@ ghost use Rattle.scenario_text.specs.Machine.{MayCome};
 ghost use Rattle.scenario_text.specs.declared.command.Command.{Command};
 ghost use Rattle.model_mode.specs.Plain.{reply_said, said_after, said_by, tree_said};
 ghost use Rattle.model_mode.specs.Kept.{cluster_of, is_used, kept_after, kept_by, no_flags, nothing_kept};
-ghost use Rattle.model_mode.specs.Reached.{IsBad, Stands};
+ghost use Rattle.model_mode.specs.Reached.{IsBad, Stands, Takes, session_ended, session_leaves};
 
 use fid_space::{Bytes, Cluster};
+use line_player::LineRunner;
 use scenario_text::{Command, TextFault, is_skipped, print_reply};
 use std::alloc::{AllocError as Memory, Global};
 use std::marker::Model;
@@ -50,13 +51,6 @@ impl Session {
             ended: false,
             used,
         })
-    }
-
-    /// Whether `end` was read.
-    pub fn has_ended(&self) -> bool
-        ensures { result ≡ self.now.ended }
-    {
-        self.ended
     }
 
     /// The cluster that was made.
@@ -173,10 +167,11 @@ impl Session {
 
     /// Runs a line, and adds what it writes. A refused line changes nothing; after want of memory the
     /// session is given up.
-    pub fn run_line(&mut self, line: &[u8], out: &mut Bytes) -> Result<(), TextFault>
+    fn run_line(&mut self, line: &[u8], out: &mut Bytes) -> Result<(), TextFault>
         ensures ok { OnOk result ((e : Entry) × Stands self.old e × (line.now ≡ line_of e)
             × (self.new ≡ kept_after self.old e) × (out.new ≡ out.old ++ said_after self.old.tree e)) }
         ensures refused { result ≡ Err TextFault.NotYet → IsBad self.old line.now }
+        ensures same { result ≡ Err TextFault.NotYet → self.new ≡ self.old }
     {
         if is_skipped(line) {
             return self.skip();
@@ -198,11 +193,30 @@ impl Session {
     fn skip(&self) -> Result<(), TextFault>
         ensures ok { OnOk result (self.now.ended ≡ false) }
         ensures refused { IsErr result → self.now.ended ≡ true }
+        ensures memory { result ≢ Err TextFault.Memory }
     {
         if self.ended {
             return Err(TextFault::NotYet);
         }
         Ok(())
+    }
+}
+
+impl LineRunner for Session {
+    ghost takes = { Takes };
+
+    ghost refuses = { IsBad };
+
+    ghost leaves = { session_leaves };
+
+    ghost ended = { session_ended };
+
+    fn take_line(&mut self, line: &[u8], out: &mut Bytes) -> Result<(), TextFault> {
+        self.run_line(line, out)
+    }
+
+    fn has_ended(&self) -> bool {
+        self.ended
     }
 }
 

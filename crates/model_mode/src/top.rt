@@ -1,45 +1,13 @@
-ghost use Rattle.std.specs.Prelude.{◌≡◌, ◌++◌, ◌⊎◌, ◌<◌, ◌≤◌, ◌-◌, Some, ℕ, List, length};
+ghost use Rattle.std.specs.Prelude.{◌≡◌, ◌⊎◌, Some, ℕ, List};
 ghost use Rattle.std.specs.Io.KnownBytes.{Appends, Consumes, IsAtEnd};
 ghost use Rattle.outside.specs.Causes.{Rose};
 ghost use Rattle.outside.specs.declared.status.Status.{Status};
 ghost use Rattle.model_mode.specs.Outcome.{Outcome, IsScenario};
-ghost use Rattle.model_mode.specs.Reached.{Reached};
 
-use crate::player::Player;
-use crate::stop::status_of;
+use crate::session::Session;
+use line_player::play_lines;
 use outside::{Sink, Source, Status};
 use std::alloc::Global;
-
-/// How many bytes are read at once.
-const PIECE: usize = 65_536;
-
-/// Reads all that the input has and runs it.
-fn read_all<I: Source, O: Sink>(
-    player: &mut Player,
-    buffer: &mut [u8],
-    input: &mut I,
-    output: &mut O,
-) -> Status
-    requires { 0 < length buffer.old }
-    ensures outcome { (bytes text : List ℕ)
-        → Reached bytes text player.old.session player.old.rest player.old.count player.old.total
-        → (read : List ℕ) × (more : List ℕ) × Consumes (I.left input.old) (I.left input.new) read
-        × Appends (O.written output.old) (O.written output.new) more
-        × Outcome (IsAtEnd (I.left input.new)) result (bytes ++ read) (text ++ more) }
-    ensures source { result ≡ Status.Source → Rose (I.source_faults input.old) (I.source_faults input.new) }
-    ensures sink { result ≡ Status.Sink → Rose (O.sink_faults output.old) (O.sink_faults output.new) }
-{
-    loop {
-        match input.read(buffer) {
-            Err(_) => return Status::Source,
-            Ok(0) => return player.finish(output),
-            Ok(count) => match player.feed(&buffer[..count], output) {
-                Ok(()) => {}
-                Err(stop) => return status_of(stop),
-            },
-        }
-    }
-}
 
 /// Runs the scenario that the input has on the plain tree, and answers how that ended: `Done` where its
 /// `end` was read and nothing follows, `Refused` where a line was refused or `end` is missing, `Memory`
@@ -58,13 +26,9 @@ pub fn play_model<I: Source, O: Sink>(alloc: Global, input: &mut I, output: &mut
     ensures source { result ≡ Status.Source → Rose (I.source_faults input.old) (I.source_faults input.new) }
     ensures sink { result ≡ Status.Sink → Rose (O.sink_faults output.old) (O.sink_faults output.new) }
 {
-    let mut buffer = match vec![in alloc; 0u8; PIECE] {
-        Ok(buffer) => buffer,
+    let mut session = match Session::new(alloc) {
+        Ok(session) => session,
         Err(_) => return Status::Memory,
     };
-    let mut player = match Player::new(alloc) {
-        Ok(player) => player,
-        Err(_) => return Status::Memory,
-    };
-    read_all(&mut player, buffer.as_mut_slice(), input, output)
+    play_lines(alloc, &mut session, input, output)
 }

@@ -3,3 +3,4 @@ pub mod Machine
 pub mod LineText
 pub mod Refusals
 pub mod Worked
+pub mod Cutting

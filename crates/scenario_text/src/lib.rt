@@ -8,6 +8,7 @@
 #![tactic(auto)]
 
 mod command;
+mod cutter;
 mod laws;
 mod line;
 mod list;
@@ -15,6 +16,7 @@ mod refusal;
 mod transcripts;
 
 pub use command::{Command, TextFault};
+pub use cutter::{Cut, LineCutter};
 pub use laws::{
     a_run_accepts_each_number_once, a_run_has_a_legal_history, commands_come_in_order,
     one_entry_per_line, one_spelling_per_command,
@@ -24,7 +26,7 @@ pub use line::{
     print_end_unclean, print_recovering, print_reply, print_stable, print_stale, print_state,
     print_tree_state, print_up,
 };
-pub use refusal::{is_full, is_skipped, print_no_end, print_refusal};
+pub use refusal::{is_skipped, print_no_end, print_refusal};
 pub use transcripts::{empty_transcript, first_transcript};
 
 #[cfg(test)]

@@ -67,11 +67,8 @@ fn reads_clusters(rt: HostRuntime) {
 }
 
 #[test]
-fn tells_skipped_lines_and_limits(rt: HostRuntime) -> Result<(), Fail> {
+fn tells_skipped_lines(rt: HostRuntime) -> Result<(), Fail> {
     assert!(rt; is_skipped(b"") && is_skipped(b"# x") && !is_skipped(b" # x"));
-    assert!(rt; !is_full(999_999, 67_108_863, b"a", b'a'));
-    assert!(rt; is_full(1_000_000, 0, b"", b'a'));
-    assert!(rt; is_full(0, 67_108_864, b"", b'a'));
     let mut out = Bytes::new(rt.alloc());
     print_refusal(7, &mut out)?;
     print_no_end(1_000_001, &mut out)?;
@@ -79,6 +76,36 @@ fn tells_skipped_lines_and_limits(rt: HostRuntime) -> Result<(), Fail> {
         out.bytes(),
         b"line 7: NotYet\nline 1000001: NoEnd\n".as_slice()
     );
+    Ok(())
+}
+
+/// The lines are the same however the bytes are cut, and a long one shows at its byte 16,385.
+#[test]
+fn cuts_lines(rt: HostRuntime) -> Result<(), Fail> {
+    let text = b"ab\n\ncd";
+    for size in 1..8usize {
+        let mut cutter = LineCutter::new(rt.alloc());
+        let mut lines = Bytes::new(rt.alloc());
+        let mut at = 0;
+        while at < text.len() {
+            let end = at.saturating_add(size).min(text.len());
+            if let Cut::Line { used } = cutter.feed(&text[at..end])? {
+                lines.append(cutter.line())?;
+                lines.push(b'|')?;
+                at = at.saturating_add(used.max(1));
+            } else {
+                at = end;
+            }
+        }
+        assert_eq!(rt; lines.bytes(), b"ab||".as_slice(), "{size}");
+        assert_eq!(rt; cutter.line(), b"cd".as_slice(), "{size}");
+        assert!(rt; cutter.is_open(), "{size}");
+    }
+    let long = vec![in rt.alloc(); b'x'; 16_385]?;
+    let mut cutter = LineCutter::new(rt.alloc());
+    assert_eq!(rt; cutter.feed(&long.as_slice()[..16_384])?, Cut::More);
+    assert_eq!(rt; cutter.feed(b"\nx")?, Cut::Line { used: 1 });
+    assert_eq!(rt; cutter.feed(long.as_slice())?, Cut::Long { used: 16_385 });
     Ok(())
 }
 

@@ -1,24 +1,42 @@
-use Rattle.std.proofs.Common.{[], sym, subst}
+use Rattle.std.proofs.Common.{◌≡◌, ◌∙◌, [], ap, subst, sym}
 use Rattle.std.specs.Io.KnownBytes.{IsAtEnd}
 use Rattle.std.proofs.KnownBytes.{Appends-nil, Consumes-nil}
 use Rattle.outside.specs.Disk.{Shown}
-use Rattle.dne_cli.specs.Transcript.{Outcome}
-use Rattle.dne_cli.proofs.Endings.{begins, starts_short}
+use Rattle.line_player.specs.Played.{Played}
+use Rattle.line_player.proofs.Mapped.{played_map}
+use Rattle.dne_cli.specs.Disks.{Touches}
+use Rattle.dne_cli.specs.Kept.{Kept, nothing_kept}
+use Rattle.dne_cli.specs.Transcript.{Outcome, play_rules}
+use Rattle.dne_cli.specs.Reached.{session_rules}
+use Rattle.dne_cli.proofs.Places.{session_maps, starts_short, touched}
+use Rattle.dne_cli.proofs.Touching.{touches_refl}
 use Rattle.dne_cli.proofs.top.play.Goals as goal
 
 pub returns-in-Err-clause-outcome : goal.returns-in-Err-clause-outcome
 returns-in-Err-clause-outcome g c =
-    ([], [], Consumes-nil (g.I.Source.left c.args.input.now), Appends-nil (g.O.Sink.written c.args.output.now), starts_short (IsAtEnd (g.I.Source.left c.args.input.now)) (g.D.Disk.shown c.args.disk) (g.D.Disk.shown c.args.disk))
-
-pub returns-in-Err-new-clause-outcome : goal.returns-in-Err-new-clause-outcome
-returns-in-Err-new-clause-outcome g c =
-    ([], [], Consumes-nil (g.I.Source.left c.args.input.now), Appends-nil (g.O.Sink.written c.args.output.now), starts_short (IsAtEnd (g.I.Source.left c.args.input.now)) (g.D.Disk.shown c.args.disk) (g.D.Disk.shown c.in-Err-new.disk))
+    let first = g.D.Disk.shown c.args.disk in
+    ([], [], Consumes-nil (g.I.Source.left c.args.input.now), Appends-nil (g.O.Sink.written c.args.output.now), starts_short (IsAtEnd (g.I.Source.left c.args.input.now)) first (g.D.Disk.shown c.in-Err.disk) (subst (λ (d : Shown). Touches first d) (sym c.in-Err.ensures.err) (touches_refl first)))
 
 pub returns-clause-outcome : goal.returns-clause-outcome
 returns-clause-outcome g c =
     let first = g.D.Disk.shown c.args.disk in
-    let p = c.in-Ok-new.player in
-    let e = c.in-Ok-new.ensures in
-    let o = c.read_all-status.ensures.outcome first [] [] (begins first p.session p.rest p.count p.total e.session e.rest e.count e.total) in
-    let End : Type 0 = IsAtEnd (g.I.Source.left c.read_all-status.new.input) in
-    (o.0, o.1, o.2, o.3, subst (λ (d : Shown). Outcome End first d c.read_all-status.result o.0 o.1) (sym c.into_disk.ensures) o.4)
+    let new : Kept = c.play_lines-status.new.stage in
+    let End : Type 0 = IsAtEnd (g.I.Source.left c.play_lines-status.new.input) in
+    let o = c.play_lines-status.ensures.outcome in
+    let played = subst (λ (k : Kept). Played (session_rules k new) End c.play_lines-status.result o.0 o.1) c.in-Ok.ensures.ok o.4 in (
+      o.0,
+      o.1,
+      o.2,
+      o.3,
+      subst (λ (d : Shown). Outcome End first d c.play_lines-status.result o.0 o.1) (sym c.into_disk.ensures)
+          (played_map (session_rules (nothing_kept first) new) (play_rules first new.target.disk) End End (λ e. e) (session_maps first new) c.play_lines-status.result o.0 o.1 played),
+    )
+
+pub returns-clause-touches : goal.returns-clause-touches
+returns-clause-touches g c =
+    let first = g.D.Disk.shown c.args.disk in
+    let new : Kept = c.play_lines-status.new.stage in
+    let End : Type 0 = IsAtEnd (g.I.Source.left c.play_lines-status.new.input) in
+    let o = c.play_lines-status.ensures.outcome in
+    let played = subst (λ (k : Kept). Played (session_rules k new) End c.play_lines-status.result o.0 o.1) c.in-Ok.ensures.ok o.4 in
+    subst (λ (d : Shown). Touches first d) (sym c.into_disk.ensures) (touched (nothing_kept first) new End c.play_lines-status.result o.0 o.1 played)

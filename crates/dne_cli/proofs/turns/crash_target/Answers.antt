@@ -3,7 +3,8 @@ use Rattle.std.proofs.Common.{◌≡◌, ◌∙◌, sym, ap, refl, subst}
 use Rattle.scenario_text.specs.declared.line.Line.TheVariants as lines
 use Rattle.scenario_text.specs.declared.line.Standing.TheVariants as standings
 use Rattle.outside.specs.Disk.{Shown}
-use Rattle.dne_cli.specs.Kept.{Held, Crashes, Touches, standing_of, stopped}
+use Rattle.dne_cli.specs.Kept.{Held, Crashes, standing_of, stopped}
+use Rattle.dne_cli.specs.Disks.{Touches}
 use Rattle.dne_cli.specs.Restart.{held_of}
 use Rattle.dne_cli.specs.Session.{count_of}
 use Rattle.dne_cli.proofs.Printed.{printed, crashes_up, touches_itself}

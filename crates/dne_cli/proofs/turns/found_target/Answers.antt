@@ -1,7 +1,8 @@
 use Rattle.std.proofs.Common.{[], inl, inr, sym, ap, refl, subst, append-nil}
 use Rattle.outside.specs.Disk.{Shown}
 use Rattle.scenario_text.specs.declared.line.Line.TheVariants as lines
-use Rattle.dne_cli.specs.Kept.{Ledger, Founds, Formatted, Faulted, serving_on}
+use Rattle.dne_cli.specs.Kept.{Ledger, Founds, serving_on}
+use Rattle.dne_cli.specs.Disks.{Formatted, Faulted}
 use Rattle.dne_cli.specs.Restart.{held_of}
 use Rattle.dne_cli.proofs.Printed.{printed}
 use Rattle.dne_cli.proofs.turns.found_target.Goals as goal

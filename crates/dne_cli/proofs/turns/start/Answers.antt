@@ -2,6 +2,7 @@ use Rattle.std.specs.Prelude.{OnOk}
 use Rattle.std.proofs.Common.{◌≡◌, ◌++◌, inl, inr, ℕ, length, refl, subst}
 use Rattle.scenario_text.specs.LineText.{up_text}
 use Rattle.scenario_text.specs.declared.line.Line.TheVariants as lines
+use Rattle.dne_cli.specs.Disks.{HoldsBadImage, HoldsNothing}
 use Rattle.dne_cli.specs.Kept.{Starts, Unread, Damaged, opened_on}
 use Rattle.dne_cli.specs.Restart.{held_of, FailsToReopen}
 use Rattle.dne_cli.proofs.Printed.{printed}
@@ -27,7 +28,7 @@ returns-in-Err-Disk-clause-lines g c =
 pub returns-in-Err-Gates-clause-lines : goal.returns-in-Err-Gates-clause-lines
 returns-in-Err-Gates-clause-lines g c =
     let disk = g.D.Disk.shown c.args.disk in
-    let failed : Damaged disk (g.D.Disk.shown c.in-Err-Gates.disk) = subst (FailsToReopen g.D.Disk.shown disk) c.in-Err-Gates.field-0-is c.in-Err-Gates.ensures.err in
+    let failed : Damaged (HoldsNothing c.in-Err-Gates.gates) disk (g.D.Disk.shown c.in-Err-Gates.disk) = subst (FailsToReopen g.D.Disk.shown disk) c.in-Err-Gates.field-0-is c.in-Err-Gates.ensures.err in
     printed c.print_damaged_gates.result c.args.out.now c.print_damaged_gates.new.out (lines.DamagedGates c.args.number c.in-Err-Gates.gates) (λ ls. Starts disk c.args.number (held_of g.D.Disk.shown c.halted-in-Err-Gates.result) ls)
     c.print_damaged_gates.ensures
     (inr (inr (inl (g.D.Disk.shown c.in-Err-Gates.disk, c.in-Err-Gates.gates, failed, c.halted-in-Err-Gates.ensures, refl))))
@@ -35,7 +36,7 @@ returns-in-Err-Gates-clause-lines g c =
 pub returns-in-Err-Image-clause-lines : goal.returns-in-Err-Image-clause-lines
 returns-in-Err-Image-clause-lines g c =
     let disk = g.D.Disk.shown c.args.disk in
-    let failed : Damaged disk (g.D.Disk.shown c.in-Err-Image.disk) = subst (FailsToReopen g.D.Disk.shown disk) c.in-Err-Image.field-0-is c.in-Err-Image.ensures.err in
+    let failed : Damaged (HoldsBadImage c.in-Err-Image.place) disk (g.D.Disk.shown c.in-Err-Image.disk) = subst (FailsToReopen g.D.Disk.shown disk) c.in-Err-Image.field-0-is c.in-Err-Image.ensures.err in
     printed c.print_damaged_image.result c.args.out.now c.print_damaged_image.new.out (lines.DamagedImage c.args.number c.in-Err-Image.place) (λ ls. Starts disk c.args.number (held_of g.D.Disk.shown c.halted-in-Err-Image.result) ls)
     c.print_damaged_image.ensures
     (inr (inr (inr (g.D.Disk.shown c.in-Err-Image.disk, c.in-Err-Image.place, failed, c.halted-in-Err-Image.ensures, refl))))

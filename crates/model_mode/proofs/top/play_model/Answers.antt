@@ -1,27 +1,35 @@
-use Rattle.std.proofs.Common.{[]}
+use Rattle.std.proofs.Common.{◌≡◌, [], map, subst}
 use Rattle.std.specs.Io.KnownBytes.{IsAtEnd}
 use Rattle.std.proofs.KnownBytes.{Appends-nil, Consumes-nil}
-use Rattle.model_mode.proofs.Complete.{completes}
-use Rattle.model_mode.proofs.Endings.{begins, starts_short}
+use Rattle.scenario_text.specs.Spelling.{line_of}
+use Rattle.line_player.specs.Played.{Played}
+use Rattle.line_player.proofs.Complete.{completes}
+use Rattle.line_player.proofs.Mapped.{played_map}
+use Rattle.model_mode.specs.Kept.{Kept}
+use Rattle.model_mode.specs.Outcome.{Outcome, model_rules}
+use Rattle.model_mode.specs.Reached.{session_rules}
+use Rattle.model_mode.proofs.Complete.{right_lines}
+use Rattle.model_mode.proofs.Places.{session_maps, starts_short}
 use Rattle.model_mode.proofs.top.play_model.Goals as goal
 
 pub returns-in-Err-clause-outcome : goal.returns-in-Err-clause-outcome
 returns-in-Err-clause-outcome g c =
     ([], [], Consumes-nil (g.I.Source.left c.args.input.now), Appends-nil (g.O.Sink.written c.args.output.now), starts_short (IsAtEnd (g.I.Source.left c.args.input.now)))
 
-pub returns-in-Err-new-clause-outcome : goal.returns-in-Err-new-clause-outcome
-returns-in-Err-new-clause-outcome g c =
-    ([], [], Consumes-nil (g.I.Source.left c.args.input.now), Appends-nil (g.O.Sink.written c.args.output.now), starts_short (IsAtEnd (g.I.Source.left c.args.input.now)))
-
 pub returns-clause-outcome : goal.returns-clause-outcome
 returns-clause-outcome g c =
-    let p = c.in-Ok-new.player in
-    let e = c.in-Ok-new.ensures in
-    c.read_all.ensures.outcome [] [] (begins p.session p.rest p.count p.total e.session e.rest e.count e.total)
+    let new : Kept = c.play_lines.new.stage in
+    let End : Type 0 = IsAtEnd (g.I.Source.left c.play_lines.new.input) in
+    let o = c.play_lines.ensures.outcome in
+    let played = subst (λ (k : Kept). Played (session_rules k new) End c.play_lines.result o.0 o.1) c.in-Ok.ensures o.4 in
+    (o.0, o.1, o.2, o.3, played_map (session_rules _ new) model_rules End End (λ e. e) (session_maps new) c.play_lines.result o.0 o.1 played)
 
 pub returns-clause-complete : goal.returns-clause-complete
 returns-clause-complete g c = λ bytes told scenario quiet silent.
-    let p = c.in-Ok-new.player in
-    let e = c.in-Ok-new.ensures in
-    let o = c.read_all.ensures.outcome [] [] (begins p.session p.rest p.count p.total e.session e.rest e.count e.total) in
-    completes _ _ bytes o.0 o.1 c.read_all.result told o.2 scenario o.4 (λ x. quiet (c.read_all.ensures.source x)) (λ x. silent (c.read_all.ensures.sink x))
+    let new : Kept = c.play_lines.new.stage in
+    let End : Type 0 = IsAtEnd (g.I.Source.left c.play_lines.new.input) in
+    let o = c.play_lines.ensures.outcome in
+    let played = subst (λ (k : Kept). Played (session_rules k new) End c.play_lines.result o.0 o.1) c.in-Ok.ensures o.4 in
+    completes model_rules _ _ bytes o.0 o.1 (map line_of scenario.entries) c.play_lines.result told o.2 (right_lines bytes scenario)
+    (played_map (session_rules _ new) model_rules End End (λ e. e) (session_maps new) c.play_lines.result o.0 o.1 played)
+    (λ x. quiet (c.play_lines.ensures.source x)) (λ x. silent (c.play_lines.ensures.sink x))

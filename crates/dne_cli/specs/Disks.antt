@@ -1,0 +1,170 @@
+-- What a line of the scenario does to the disk of its target.
+use Rattle.std.specs.Prelude.{◌≡◌, ◌≤◌, ◌⊎◌, ◌||◌, ℕ, Bool, true, false, IsTrue, length, List, [], ◌∷◌, Some, None, Ok, Err}
+use Rattle.std.specs.List.{AllByRecursion}
+use Rattle.outside.specs.Causes.{Rose}
+use Rattle.outside.specs.Disk.{Shown, Stays, IsImage, settles}
+use Rattle.target_disk.specs.Slots.{Saved, opened}
+use Rattle.target_disk.specs.Look.{gates_of}
+use Rattle.target_disk.specs.Reads.{Keeps}
+use Rattle.target_disk.specs.Store.{IsSettled}
+use Rattle.scenario_text.specs.Spelling.{Entry, Skip, Order}
+use Rattle.scenario_text.specs.Machine.{Group, Among}
+use Rattle.scenario_text.specs.declared.command.Command.TheVariants as commands
+use Rattle.scenario_text.specs.declared.line.Line.{Line}
+use Rattle.scenario_text.specs.declared.line.Line.TheVariants as lines
+use Rattle.dne_cli.specs.Image.{image_of, numbers_in}
+
+-- a call on a disk leaves it the same disk, and its count doesn't fall
+pub record Touches (old new : Shown) : Type 0 where
+  pub stays : Stays old new
+  pub later : old.faults ≤ new.faults
+
+-- a disk that a call failed on
+pub record Faulted (old new : Shown) : Type 0 where
+  pub touches : Touches old new
+  pub rose : Rose old.faults new.faults
+
+abbrev pub first_saved : Saved
+first_saved = record { generation = 1; bytes = image_of [] }
+
+-- a disk that was formatted
+pub record Formatted (old new : Shown) : Type 0 where
+  pub touches : Touches old new
+  pub settled : IsTrue old.honest → IsSettled new first_saved
+
+-- STOPS AND STARTS
+
+-- the disk was stopped and started: an honest one then works, and has one of its images, all of it settled
+pub record Cycled (old mid : Shown) : Type 0 where
+  pub touches : Touches old mid
+  pub image : IsTrue old.honest → IsImage old.settled mid.content
+  pub settled : IsTrue old.honest → mid.settled ≡ settles mid.content
+  pub works : IsTrue old.honest → mid.failed ≡ false
+
+-- it couldn't be stopped and started
+pub record StaysOff (old new : Shown) : Type 0 where
+  pub faulted : Faulted old new
+  pub content : IsTrue old.honest → new.content ≡ old.content
+  pub settled : IsTrue old.honest → new.settled ≡ old.settled
+
+-- it was stopped and started, and then read; what was read is what it holds then, where it tells that
+abbrev pub ReadsAfterStop : (List ℕ → Type 0) → Shown → Shown → Type 0
+ReadsAfterStop P old new = (mid : Shown) × Cycled old mid × Keeps mid new × (IsTrue mid.tells → P mid.content)
+
+-- it couldn't be stopped and started, or a call failed after that, and only reads came between
+abbrev pub FailsToRead : Shown → Shown → Type 0
+FailsToRead old new = StaysOff old new ⊎ ((mid : Shown) × Cycled old mid × Keeps mid new × Rose mid.faults new.faults)
+
+-- it was stopped and started, and then formatted
+abbrev pub FormatsAfterStop : Shown → Shown → Type 0
+FormatsAfterStop old new = (mid : Shown) × Cycled old mid × Formatted mid new
+
+abbrev pub FailsToFormat : Shown → Shown → Type 0
+FailsToFormat old new = StaysOff old new ⊎ ((mid : Shown) × Cycled old mid × Faulted mid new)
+
+-- WHAT BYTES HOLD
+
+-- they open as an image with these numbers
+abbrev pub HoldsNumbers : ℕ → List ℕ → List ℕ → Type 0
+HoldsNumbers transno numbers content =
+    (s : Saved) × (opened content ≡ Some s) × (numbers_in s.bytes ≡ Ok numbers) × (transno ≡ length numbers)
+
+-- they don't open, and these gates are open
+abbrev pub HoldsNothing : ℕ → List ℕ → Type 0
+HoldsNothing gates content = (opened content ≡ None) × (gates ≡ gates_of content)
+
+-- they open as what is no image from this place on
+abbrev pub HoldsBadImage : ℕ → List ℕ → Type 0
+HoldsBadImage place content = (s : Saved) × (opened content ≡ Some s) × (numbers_in s.bytes ≡ Err place)
+
+-- EACH LINE
+
+abbrev pub is_crash : Entry → Bool
+is_crash (Skip line) = false
+is_crash (Order (commands.Cluster targets)) = false
+is_crash (Order (commands.Send r)) = false
+is_crash (Order commands.Settle) = false
+is_crash (Order commands.Tree) = false
+is_crash (Order commands.End) = false
+is_crash (Order (commands.Commit target)) = false
+is_crash (Order (commands.Crash target)) = true
+is_crash (Order (commands.Restart target)) = false
+is_crash (Order (commands.Fuse target after choice)) = false
+
+-- a target stopped, and no `crash` asked for it
+abbrev pub IsFailure : Group → Type 0
+IsFailure g = (is_crash g.entry ≡ false) × ((target : ℕ) × Among g.lines (lines.Down target))
+
+-- a cluster is made: its target's disk is formatted, or that failed
+abbrev pub MakesDisk : List Line → Shown → Shown → Type 0
+MakesDisk [] old new = Formatted old new
+MakesDisk (l ∷ ls) old new = Faulted old new
+
+-- a restart, by the line that it says: a disk that was formatted is read, another is formatted
+abbrev pub RestartsDisk : Bool → Line → Shown → Shown → Type 0
+RestartsDisk made (lines.State target standing) old new = new ≡ old
+RestartsDisk true (lines.Up target transno numbers) old new = ReadsAfterStop (HoldsNumbers transno numbers) old new
+RestartsDisk false (lines.Up target transno numbers) old new = (transno ≡ 0) × (numbers ≡ []) × FormatsAfterStop old new
+RestartsDisk true (lines.Down target) old new = FailsToRead old new
+RestartsDisk false (lines.Down target) old new = FailsToFormat old new
+RestartsDisk made (lines.DamagedGates target gates) old new = ReadsAfterStop (HoldsNothing gates) old new
+RestartsDisk made (lines.DamagedImage target place) old new = ReadsAfterStop (HoldsBadImage place) old new
+RestartsDisk made _ old new = ⊥
+
+-- what stands on the line does this to the disk, which was formatted or not; a line that isn't named here
+-- leaves it alone
+abbrev pub DoesToDisk : Bool → Entry → List Line → Shown → Shown → Type 0
+DoesToDisk made (Skip line) ls old new = new ≡ old
+DoesToDisk made (Order (commands.Cluster targets)) ls old new = MakesDisk ls old new
+DoesToDisk made (Order (commands.Send r)) ls old new = new ≡ old
+DoesToDisk made (Order commands.Settle) ls old new = new ≡ old
+DoesToDisk made (Order commands.Tree) ls old new = new ≡ old
+DoesToDisk made (Order commands.End) ls old new = Unit {0}
+DoesToDisk made (Order (commands.Commit target)) ls old new = Unit {0}
+DoesToDisk made (Order (commands.Crash target)) ls old new = new ≡ old
+DoesToDisk made (Order (commands.Restart target)) ls old new = AllByRecursion (λ l. RestartsDisk made l old new) ls
+DoesToDisk made (Order (commands.Fuse target after choice)) ls old new = new ≡ old
+
+-- It is the same disk after each group, its count doesn't fall, and rises where a target stopped that no
+-- `crash` asked for.
+pub record DiskTurn (made : Bool) (g : Group) (old new : Shown) : Type 0 where
+  pub touches : Touches old new
+  pub cause : IsFailure g → Rose old.faults new.faults
+  pub does : DoesToDisk made g.entry g.lines old new
+
+abbrev pub is_up : Line → Bool
+is_up (lines.Up target transno numbers) = true
+is_up _ = false
+
+abbrev pub says_up : List Line → Bool
+says_up [] = false
+says_up (l ∷ ls) = is_up l || says_up ls
+
+abbrev pub says_nothing : List Line → Bool
+says_nothing [] = true
+says_nothing (l ∷ ls) = false
+
+-- the disk was formatted: the cluster was made with it, or a restart brought its target up
+abbrev pub makes : Entry → List Line → Bool
+makes (Skip line) ls = false
+makes (Order (commands.Cluster targets)) ls = says_nothing ls
+makes (Order (commands.Send r)) ls = false
+makes (Order commands.Settle) ls = false
+makes (Order commands.Tree) ls = false
+makes (Order commands.End) ls = false
+makes (Order (commands.Commit target)) ls = false
+makes (Order (commands.Crash target)) ls = false
+makes (Order (commands.Restart target)) ls = says_up ls
+makes (Order (commands.Fuse target after choice)) ls = false
+
+abbrev pub made_by : Bool → Group → Bool
+made_by made g = made || makes g.entry g.lines
+
+abbrev pub made_all : Bool → List Group → Bool
+made_all made [] = made
+made_all made (g ∷ gs) = made_all (made_by made g) gs
+
+-- from one disk to another, by what each group does
+abbrev pub Moves : Bool → Shown → List Group → Shown → Type 0
+Moves made old [] new = new ≡ old
+Moves made old (g ∷ gs) new = (mid : Shown) × DiskTurn made g old mid × Moves (made_by made g) mid gs new

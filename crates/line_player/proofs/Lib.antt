@@ -1,0 +1,5 @@
+pub mod Lines
+pub mod Stops
+pub mod Steps
+pub mod Mapped
+pub mod Complete

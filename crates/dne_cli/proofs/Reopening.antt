@@ -85,7 +85,7 @@ module _ (old mid new : Shown) (cycle : Cycled old mid) (keeps : Keeps mid new) 
   damaged_gates gates tells none = record {
     touches = touched;
     after_stop = (mid, cycle, keeps, none);
-    cause = λ honest. (mid.content, cycle.image honest, inl (none (tells (honest_still honest)).0));
+    cause = λ honest. (mid.content, cycle.image honest, inl ((none (tells (honest_still honest))).0));
     images = no_others;
   }
 

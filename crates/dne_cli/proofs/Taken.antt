@@ -17,7 +17,7 @@ use Rattle.scenario_text.specs.declared.line.Standing.TheVariants.{Serving, Open
 use Rattle.scenario_text.specs.declared.command.Command.TheVariants as commands
 use Rattle.dne_cli.specs.Image.{items_bytes}
 use Rattle.dne_cli.specs.Kept.{Kept, Held, Ledger, Committed, Torn, Commits, Ends, Founds, all_stable, empty_ledger, image_bytes, ledger_after, no_seats, served, served_lines, serving_on, settle_lines, standing_of, stopped, tree_lines, turned_away}
-use Rattle.dne_cli.specs.Disks.{DiskTurn, DoesToDisk, made_by, makes}
+use Rattle.dne_cli.specs.Disks.{DiskTurn, DoesToDisk, IsFailure, made_by, makes}
 use Rattle.dne_cli.specs.Reached.{IsPlayedRequest, Agrees, AsksSame, HoldsSame, Matches, Stored, greatest}
 use Rattle.dne_cli.proofs.Lists.{all_map, all_among}
 use Rattle.dne_cli.proofs.Touching.{touches_refl}

@@ -9,8 +9,7 @@ use Rattle.tree_model.specs.declared.op.Op.{Op}
 use Rattle.tree_model.specs.declared.op.Op.TheVariants as ops
 use Rattle.tree_model.specs.declared.reply.Reply.{Reply}
 use Rattle.tree_model.specs.declared.reply.Reply.TheVariants as replies
-use Rattle.tree_model.specs.declared.errno.Errno.{Errno}
-use Rattle.tree_model.specs.declared.errno.Errno.TheVariants.{EPERM, ENOENT, EEXIST, ENOTDIR, EISDIR, EINVAL, EFBIG, ENOSPC, EMLINK, ENOTEMPTY, ELOOP, ENODATA}
+use Rattle.tree_model.specs.Errnos.{errno_code}
 use Rattle.tree_model.specs.History.{Item}
 use Rattle.target_disk.specs.Slots.{Saved, opened}
 
@@ -26,21 +25,6 @@ word64 n = little_bytes 8 n
 
 abbrev pub fid_bytes : Fid → List ℕ
 fid_bytes f = word64 f.seq ++ (word32 f.oid ++ word32 f.ver)
-
--- the error numbers of POSIX, as Linux numbers them
-abbrev pub errno_code : Errno → ℕ
-errno_code EPERM = 1
-errno_code ENOENT = 2
-errno_code EEXIST = 17
-errno_code ENOTDIR = 20
-errno_code EISDIR = 21
-errno_code EINVAL = 22
-errno_code EFBIG = 27
-errno_code ENOSPC = 28
-errno_code EMLINK = 31
-errno_code ENOTEMPTY = 39
-errno_code ELOOP = 40
-errno_code ENODATA = 61
 
 -- 0, or the number of the error; what a read answers is no reply of an operation that is kept
 abbrev pub reply_code : Reply → ℕ

@@ -1,13 +1,13 @@
 //! The image of a target: the bytes that its disk keeps of what it accepted.
 ghost use Rattle.std.specs.Prelude.{◌≡◌, ◌+◌, ◌*◌, ◌≤◌, ◌++◌, [], ℕ, length, take, drop, vec_len, OnOk, IfOk, IfErr, IfSome, Ok, Err};
-ghost use Rattle.dne_cli.specs.Image.{errno_code, fid_bytes, head_bytes, image_of, item_bytes, item_len, number_at, numbers_from, numbers_in, op_bytes, reply_code, word32, word64};
+ghost use Rattle.dne_cli.specs.Image.{fid_bytes, head_bytes, image_of, item_bytes, item_len, number_at, numbers_from, numbers_in, op_bytes, reply_code, word32, word64};
 ghost use Rattle.dne_cli.specs.Restart.{BadAt};
 
 use byteorder::{ByteOrder, LittleEndian};
 use fid_space::{Bytes, Fid, Numbers};
 use std::alloc::{AllocError as Memory, Global};
 use std::marker::Model;
-use tree_model::{Errno, Op, Reply, Request};
+use tree_model::{Op, Reply, Request};
 
 /// What an image begins with.
 const MAGIC: u32 = 0x444e_4530;
@@ -147,27 +147,7 @@ fn code_of(reply: &Reply) -> u32
         Reply::Fid(_) => 0,
         Reply::Attr { .. } => 0,
         Reply::Value(_) => 0,
-        Reply::Err(errno) => errno_code(*errno),
-    }
-}
-
-/// The number of an error, as POSIX names it and Linux numbers it.
-fn errno_code(errno: Errno) -> u32
-    ensures { result ≡ errno_code errno }
-{
-    match errno {
-        Errno::EPERM => 1,
-        Errno::ENOENT => 2,
-        Errno::EEXIST => 17,
-        Errno::ENOTDIR => 20,
-        Errno::EISDIR => 21,
-        Errno::EINVAL => 22,
-        Errno::EFBIG => 27,
-        Errno::ENOSPC => 28,
-        Errno::EMLINK => 31,
-        Errno::ENOTEMPTY => 39,
-        Errno::ELOOP => 40,
-        Errno::ENODATA => 61,
+        Reply::Err(errno) => errno.code(),
     }
 }
 

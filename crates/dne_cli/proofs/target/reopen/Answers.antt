@@ -47,4 +47,4 @@ returns-in-Ok-read_numbers-clause-ok g c =
     let new = g.D.Disk.shown c.in-Ok.store in
     let numbers = c.in-Ok-read_numbers.numbers in
     let read : numbers_in c.in-Ok.image ≡ Ok numbers = subst (λ l. numbers_in l ≡ Ok numbers) c.bytes.ensures c.in-Ok-read_numbers.ensures.ok in
-    reopened old mid new cycle c.in-Ok.image numbers (g.met.D.Disk.whole c.power_cycle.new.self).tells c.in-Ok.ensures.ok c.in-Ok.ensures.settled read
+    reopened old mid new cycle c.in-Ok.ensures.ok.keeps c.in-Ok.image numbers (g.met.D.Disk.whole c.power_cycle.new.self).tells c.in-Ok.ensures.ok c.in-Ok.ensures.settled read

@@ -10,7 +10,11 @@ use Rattle.fid_space.specs.Places.{place_of, has_place, in_range, base_of}
 use Rattle.tree_model.specs.Tree.{Grown, base}
 use Rattle.tree_model.specs.Step.{step}
 use Rattle.tree_model.specs.History.{Item, tree_of}
-use Rattle.tree_model.specs.Participants.{home_of, participants}
+use Rattle.tree_model.specs.Participants.{home_of}
+use Rattle.tree_model.specs.Striped as striped
+use Rattle.tree_model.specs.Keys.{Laid}
+use Rattle.tree_model.specs.Kept.{laid_of}
+use Rattle.tree_model.proofs.OneTarget.{on_one}
 use Rattle.tree_model.specs.OpText.{IsOp}
 use Rattle.tree_model.specs.declared.op.Op.{Op}
 use Rattle.tree_model.specs.declared.op.Op.TheVariants as ops
@@ -111,7 +115,7 @@ late_next : (s : State) (l : Ledger) (r : Request) (rs : List Request) → IsRea
 late_next s l r rs y late v =
     let line : Line = lines.Stale r.number (seat_of l r.client) in
     let same : served_one l r ≡ l = ap (λ b. cond b l (accepted_by l r)) late in
-    let said : serve_lines l r ≡ line ∷ [] = ap (λ b. cond b (line ∷ []) (two_lines l.tree.targets (item_for l r))) late in
+    let said : serve_lines l r ≡ line ∷ [] = ap (λ b. cond b (line ∷ []) (two_lines (item_for l r))) late in
     let all : line ∷ served_lines l rs ≡ served_lines l (r ∷ rs) = λ i. sym said i ++ served_lines (sym same i) rs in
     record {
       history = v.history;
@@ -143,9 +147,11 @@ below s l r rs y new =
 
 -- a request that isn't late is accepted
 accepts : (s : State) (l : Ledger) (r : Request) (rs : List Request) (others : List Line) → IsReady s l (r ∷ rs) → is_late l r ≡ false
-    → Accepts s r.number (item_of s r).reply (participants (targets_of s) r.op (item_of s r).reply) (lines.Reply r.number (item_of s r).reply ∷ others) (after_one s r)
+    → Accepts s r.number (item_of s r).reply 1 (lines.Reply r.number (item_of s r).reply ∷ others) (after_one s r)
 accepts s l r rs others y new =
     let most = below s l r rs y new in
+    let fits : IsPlayedRequest r = all_among IsPlayedRequest s.asked.sent r y.requests y.wait.0 in
+    let laid : Laid = laid_of (targets_of s) s.history in
     record {
       request = r;
       sent = y.wait.0;
@@ -155,7 +161,7 @@ accepts s l r rs others y new =
           (λ i. (i.request.number ≢ r.number) × (SameSeat (targets_of s) i.request r → i.request.number ≤ r.number)) s.history
           (λ i apart low. (apart, (λ same. let l = low same.0 in omega (arith, l, most)))) y.free.0 (greatest_above r.client s.history);
       replied = refl;
-      placed = refl;
+      placed = sym (ap (λ n. striped.on n laid r.op) y.one ∙ on_one laid r.op fits.3);
       next = refl;
       after = refl;
     }
@@ -214,12 +220,12 @@ new_next : (s : State) (l : Ledger) (r : Request) (rs : List Request) → IsRead
 new_next s l r rs y new v =
     let n : ℕ = targets_of s in
     let i : Item = item_of s r in
-    let two : List Line = two_lines n i in
+    let two : List Line = two_lines i in
     let rest : List Line = served_lines (accepted_by l r) rs in
     let same : served_one l r ≡ accepted_by l r = ap (λ b. cond b l (accepted_by l r)) new in
     let said : serve_lines l r ≡ two =
-    ap (λ b. cond b (lines.Stale r.number (seat_of l r.client) ∷ []) (two_lines l.tree.targets (item_for l r))) new
-    ∙ ap (λ (g : Grown). two_lines g.targets (record { request = r; reply = (step g.targets g.tree r.op).1 })) y.matches.tree in
+    ap (λ b. cond b (lines.Stale r.number (seat_of l r.client) ∷ []) (two_lines (item_for l r))) new
+    ∙ ap (λ (g : Grown). two_lines (record { request = r; reply = (step g.targets g.tree r.op).1 })) y.matches.tree in
     let all : two ++ rest ≡ served_lines l (r ∷ rs) = λ k. sym said k ++ served_lines (sym same k) rs in
     record {
       history = v.history;

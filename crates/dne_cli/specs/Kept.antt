@@ -8,7 +8,6 @@ use Rattle.target_disk.specs.Store.{IsSettled, OpensAsEither, next}
 use Rattle.tree_model.specs.Tree.{Grown, base, coded_grown}
 use Rattle.tree_model.specs.Step.{step}
 use Rattle.tree_model.specs.History.{Item}
-use Rattle.tree_model.specs.Participants.{participants}
 use Rattle.tree_model.specs.Codes.{coded_request}
 use Rattle.tree_model.specs.declared.op.Request.{Request}
 use Rattle.scenario_text.specs.declared.line.Standing.{Standing}
@@ -94,9 +93,9 @@ accepted_by l r = record {
   pend = l.pend ++ r.number ∷ [];
 }
 
-abbrev pub two_lines : ℕ → Item → List Line
-two_lines targets i =
-    lines.Accept i.request.number i.reply (participants targets i.request.op i.reply) ∷ lines.Reply i.request.number i.reply ∷ []
+-- in a cluster of one target all is on target 0 alone: as a set of targets that is 1
+abbrev pub two_lines : Item → List Line
+two_lines i = lines.Accept i.request.number i.reply 1 ∷ lines.Reply i.request.number i.reply ∷ []
 
 -- a request is late where a greater number of its client was accepted
 abbrev pub is_late : Ledger → Request → Bool
@@ -106,7 +105,7 @@ abbrev pub served_one : Ledger → Request → Ledger
 served_one l r = if is_late l r then l else accepted_by l r
 
 abbrev pub serve_lines : Ledger → Request → List Line
-serve_lines l r = if is_late l r then lines.Stale r.number (seat_of l r.client) ∷ [] else two_lines l.tree.targets (item_for l r)
+serve_lines l r = if is_late l r then lines.Stale r.number (seat_of l r.client) ∷ [] else two_lines (item_for l r)
 
 -- requests served one after another
 abbrev pub served : Ledger → List Request → Ledger

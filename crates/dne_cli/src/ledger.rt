@@ -1,20 +1,18 @@
 //! What a target that serves keeps in memory.
 ghost use Rattle.std.specs.Prelude.{◌≡◌, ◌+◌, ◌*◌, ◌≤◌, ◌++◌, ◌∷◌, [], length, false, replicate, ℕ, OnOk, IfOk};
-ghost use Rattle.fid_space.specs.Places.{place_of};
 ghost use Rattle.tree_model.specs.Step.{step};
-ghost use Rattle.tree_model.specs.Participants.{participants, with_place};
 ghost use Rattle.tree_model.specs.TreeText.{tree_text};
 ghost use Rattle.scenario_text.specs.LineText.{texts, line_text};
 ghost use Rattle.scenario_text.specs.declared.line.Line.{Line};
 ghost use Rattle.dne_cli.specs.Kept.{all_stable, empty_ledger, image_bytes, is_late, item_for, no_seats, seat_of, serve_lines, served, served_lines, served_one, two_lines, accepted_by};
 
 use crate::image::Image;
-use fid_space::{Bytes, Cluster, Fid, Numbers, Targets, locate};
+use fid_space::{Bytes, Cluster, Numbers, Targets};
 use scenario_text::{print_accept, print_reply, print_stale};
 use std::alloc::{AllocError as Memory, Global};
 use std::marker::Model;
 use std::mem;
-use tree_model::{Op, PlainTree, Reply, Request};
+use tree_model::{PlainTree, Request};
 
 /// How many seats there are: one for each client that a request can name.
 const SEATS: usize = 256;
@@ -118,20 +116,18 @@ impl Ledger {
         self.accept(request, out)
     }
 
-    /// Accepts a request, and adds its two lines.
+    /// Accepts a request, which is on target 0 alone, and adds its two lines.
     fn accept(&mut self, request: &Request, out: &mut Bytes) -> Result<(), Memory>
         requires { self.old.count ≤ 65536 }
         ensures count { self.new.count ≤ self.old.count + 1 }
         ensures after { OnOk result (self.new ≡ accepted_by self.old request.now) }
-        ensures lines { OnOk result (out.new ≡ out.old ++ texts (two_lines self.old.tree.targets (item_for self.old request.now))) }
+        ensures lines { OnOk result (out.new ≡ out.old ++ texts (two_lines (item_for self.old request.now))) }
     {
-        let cluster = self.tree.cluster();
         let reply = self.tree.apply(&request.op)?;
-        let on = participants(cluster, &request.op, &reply);
         self.image.push(self.alloc, request, &reply)?;
         self.seats[request.client as usize] = request.number;
         self.pend.push(request.number)?;
-        print_accept(request.number, &reply, on, out)?;
+        print_accept(request.number, &reply, Targets::of_number(1), out)?;
         print_reply(request.number, &reply, out)?;
         Ok(())
     }
@@ -142,27 +138,4 @@ fn seats(alloc: Global, len: usize) -> Result<Vec<u32>, Memory>
     ensures { IfOk result (λ v. v.items ≡ no_seats len) }
 {
     vec![in alloc; 0u32; len]
-}
-
-/// The targets that an operation with this reply is on.
-fn participants(cluster: Cluster, op: &Op, reply: &Reply) -> Targets
-    ensures { result ≡ participants cluster op.now reply.now }
-{
-    let home = with_place(Targets::none(), cluster, op.first_fid());
-    match (op, reply) {
-        (Op::Create { parent, fid, .. }, Reply::Ok) => {
-            with_place(with_place(home, cluster, *fid), cluster, *parent)
-        }
-        _ => home,
-    }
-}
-
-/// The set with the FID's place as a member.
-fn with_place(set: Targets, cluster: Cluster, fid: Fid) -> Targets
-    ensures { result ≡ with_place set (place_of cluster fid) }
-{
-    match locate(cluster, fid) {
-        Ok(target) => set.with(target),
-        Err(_) => set,
-    }
 }

@@ -79,30 +79,31 @@ fn tells_skipped_lines(rt: HostRuntime) -> Result<(), Fail> {
     Ok(())
 }
 
-/// The lines are the same however the bytes are cut, and a long one shows at its byte 16,385.
+/// The lines are the same whether the bytes come at once or one by one, and a long one shows at its byte
+/// 16,385.
 #[test]
 fn cuts_lines(rt: HostRuntime) -> Result<(), Fail> {
-    let text = b"ab\n\ncd";
-    for size in 1..8usize {
-        let mut cutter = LineCutter::new(rt.alloc());
-        let mut lines = Bytes::new(rt.alloc());
-        let mut at = 0;
-        while at < text.len() {
-            let end = at.saturating_add(size).min(text.len());
-            if let Cut::Line { used } = cutter.feed(&text[at..end])? {
-                lines.append(cutter.line())?;
-                lines.push(b'|')?;
-                at = at.saturating_add(used.max(1));
-            } else {
-                at = end;
-            }
+    let mut cutter = LineCutter::new(rt.alloc());
+    assert_eq!(rt; cutter.feed(b"ab\n\ncd")?, Cut::Line { used: 3 });
+    assert_eq!(rt; cutter.line(), b"ab".as_slice());
+    assert_eq!(rt; cutter.feed(b"\ncd")?, Cut::Line { used: 1 });
+    assert_eq!(rt; cutter.line(), b"".as_slice());
+    assert_eq!(rt; cutter.feed(b"cd")?, Cut::More);
+    assert_eq!(rt; cutter.line(), b"cd".as_slice());
+    assert!(rt; cutter.is_open());
+    let mut cutter = LineCutter::new(rt.alloc());
+    let mut lines = Bytes::new(rt.alloc());
+    for byte in b"ab\n\ncd" {
+        if cutter.feed(&[*byte])? == (Cut::Line { used: 1 }) {
+            lines.append(cutter.line())?;
+            lines.push(b'|')?;
         }
-        assert_eq!(rt; lines.bytes(), b"ab||".as_slice(), "{size}");
-        assert_eq!(rt; cutter.line(), b"cd".as_slice(), "{size}");
-        assert!(rt; cutter.is_open(), "{size}");
     }
+    assert_eq!(rt; lines.bytes(), b"ab||".as_slice());
+    assert_eq!(rt; cutter.line(), b"cd".as_slice());
     let long = vec![in rt.alloc(); b'x'; 16_385]?;
     let mut cutter = LineCutter::new(rt.alloc());
+    assert!(rt; long.len() == 16_385);
     assert_eq!(rt; cutter.feed(&long.as_slice()[..16_384])?, Cut::More);
     assert_eq!(rt; cutter.feed(b"\nx")?, Cut::Line { used: 1 });
     assert_eq!(rt; cutter.feed(long.as_slice())?, Cut::Long { used: 16_385 });

@@ -15,7 +15,7 @@ returns-in-Down-clause-lines g c =
     let down = c.in-Down.down in
     let old = stopped down.formatted (g.D.Disk.shown down.disk) in
     rw c.in-Down.is (printed c.print_state.result c.args.out.now c.print_state.new.out (lines.State c.args.number standings.Down) (λ ls. Crashes standings.Down c.args.number old old ls)
-    c.print_state.ensures
+    c.print_state.ensures.ok
     (refl, refl))
 
 pub returns-in_default : goal.returns-in_default
@@ -26,7 +26,7 @@ returns-in_default g c =
     let new = held_of shown c.halted.result in
     let is : new ≡ stopped true old.disk = c.halted.ensures ∙ ap (λ (d : Shown). stopped true d) c.into_disk.ensures in record {
       lines = printed c.print_down.result c.args.out.now c.print_down.new.out (lines.Down c.args.number) (λ ls. Crashes (standing_of old) c.args.number old new ls)
-          c.print_down.ensures
+          c.print_down.ensures.ok
           (crashes_up shown target c.args.number new c.in_default.not-Down is);
       touches = subst (λ (h : Held). Touches old.disk h.disk) (sym is) (touches_itself old.disk);
       count = ap (λ (h : Held). count_of h) is;

@@ -33,7 +33,7 @@ returns-in_default g c =
     let target = c.args.target in
     let old = held_of shown target in record {
       lines = printed c.print_end_unclean.result c.args.out.now c.print_end_unclean.new.out (lines.EndUnclean 0) (λ ls. Ends old.ledger old old ls)
-          c.print_end_unclean.ensures
+          c.print_end_unclean.ensures.ok
           (ends_none shown target c.in_default.not-Serving);
       touches = touches_itself old.disk;
       count = omega arith;

@@ -20,5 +20,5 @@ returns-in-Err-clause-lines g c =
     let new = held_of g.D.Disk.shown c.halted.result in
     let faulted : Faulted old (g.D.Disk.shown c.in-Err.disk) = subst (λ (d : Shown). Faulted d (g.D.Disk.shown c.in-Err.disk)) c.into_disk.ensures c.in-Err.ensures.err in
     printed c.print_down.result c.args.out.now c.print_down.new.out (lines.Down 0) (λ ls. Founds old c.args.ledger.tree.targets new ls)
-    c.print_down.ensures
+    c.print_down.ensures.ok
     (inr (g.D.Disk.shown c.in-Err.disk, faulted, c.halted.ensures, refl))

@@ -18,7 +18,7 @@ returns-in_default g c =
     let target = c.args.target in
     let old = held_of shown target in record {
       lines = printed c.print_state.result c.args.out.now c.print_state.new.out (lines.State c.args.number (standing_of old)) (λ ls. Restarts (standing_of old) old.formatted c.args.number old old ls)
-          (subst (λ s. OnOk c.print_state.result (c.print_state.new.out ≡ c.args.out.now ++ state_text c.args.number s)) c.standing-standing.ensures c.print_state.ensures)
+          (subst (λ s. OnOk c.print_state.result (c.print_state.new.out ≡ c.args.out.now ++ state_text c.args.number s)) c.standing-standing.ensures c.print_state.ensures.ok)
           (restarts_up shown target c.args.number c.in_default.not-Down);
       touches = touches_itself old.disk;
       count = omega arith;

@@ -14,7 +14,7 @@ returns-in-Ok-reformat-clause-lines g c =
     let out = c.args.out.now in
     let printed_out = c.print_up-in-Ok-reformat.new.out in
     printed c.print_up-in-Ok-reformat.result out printed_out (lines.Up c.args.number 0 []) (λ ls. Reformats disk c.args.number (opened_on new) ls)
-    (subst (λ (l : List ℕ). OnOk c.print_up-in-Ok-reformat.result (printed_out ≡ out ++ up_text c.args.number 0 l)) c.new-in-Ok-reformat.ensures c.print_up-in-Ok-reformat.ensures)
+    (subst (λ (l : List ℕ). OnOk c.print_up-in-Ok-reformat.result (printed_out ≡ out ++ up_text c.args.number 0 l)) c.new-in-Ok-reformat.ensures c.print_up-in-Ok-reformat.ensures.ok)
     (inl (new, c.in-Ok-reformat.ensures.ok, refl, refl))
 
 pub returns-clause-lines : goal.returns-clause-lines
@@ -22,5 +22,5 @@ returns-clause-lines g c =
     let disk = g.D.Disk.shown c.args.disk in
     let new = held_of g.D.Disk.shown c.halted-in-Err-reformat.result in
     printed c.print_down.result c.args.out.now c.print_down.new.out (lines.Down c.args.number) (λ ls. Reformats disk c.args.number new ls)
-    c.print_down.ensures
+    c.print_down.ensures.ok
     (inr (g.D.Disk.shown c.in-Err-reformat.disk, c.in-Err-reformat.ensures.err, c.halted-in-Err-reformat.ensures, refl))

@@ -282,7 +282,7 @@ fn the_image_after_updates(rt: HostRuntime) -> Result<(), Fail> {
     Ok(())
 }
 
-/// The image in pieces of a length, each of which is also what stands at its place. There are turns to spare.
+/// The image in pieces of a length, each of which is also what stands at its place.
 fn check_pieces(
     rt: &impl Abort,
     alloc: Global,
@@ -294,7 +294,7 @@ fn check_pieces(
     let mut piece = Vec::from_elem(alloc, 0xee, length)?;
     let mut again = Vec::from_elem(alloc, 0xee, length)?;
     let mut left = objects.pieces();
-    for _turn in 0..=image.len() {
+    for _turn in 0..image.len() {
         let place = out.len() as u64;
         let count = left.copy_next(piece.as_mut_slice());
         assert_eq!(rt;
@@ -326,6 +326,7 @@ fn a_body_is_read_back(rt: HostRuntime) -> Result<(), Fail> {
     let alloc = rt.alloc();
     let mut bytes = body(alloc, [2, 0o755, 5, 6, 2], [3, 1, 0, 0, 7, 0, 0, 0], 9, 0)?;
     bytes.push(1)?;
+    assert_eq!(rt; bytes.len(), 49);
     match Body::decode(&bytes) {
         Ok((read, rest)) => {
             assert_eq!(rt; read.encode().as_slice(), bytes.as_slice().split_at(48).0);

@@ -1,5 +1,5 @@
 -- What updates do to one object, whatever target it is on.
-use Rattle.std.proofs.Common.{◌≡◌, ◌==◌, ℕ, Bool, true, false, cond, if◌then◌else◌, List, [], ◌∷◌, ◌++◌, Option, Some, None, refl, sym, ap, ◌∙◌}
+use Rattle.std.proofs.Common.{◌≡◌, ◌==◌, ℕ, Bool, true, false, cond, if◌then◌else◌, List, [], ◌∷◌, ◌++◌, length, Option, Some, None, Result, Ok, Err, refl, sym, ap, ◌∙◌}
 use Rattle.std.specs.FinMap.{get, insert, get-insert, get-remove}
 use Rattle.fid_space.specs.declared.fid.Fid.{Fid}
 use Rattle.fid_space.specs.Places.{place_of}
@@ -9,23 +9,24 @@ use Rattle.out_update.specs.declared.update.Update.{Update}
 use Rattle.out_update.specs.declared.update.Kind.{Kind}
 use Rattle.out_update.specs.declared.update.Kind.TheVariants as kind
 use Rattle.object_store.specs.declared.body.Body.{Body}
-use Rattle.object_store.specs.Bodies.{is_allowed, body_at}
+use Rattle.object_store.specs.declared.fault.ImageFault.{ImageFault}
+use Rattle.object_store.specs.ImageReading.{body_at}
 use Rattle.object_store.specs.Objects.{Object, ObjectMap, fresh}
 use Rattle.object_store.specs.Meaning.{param, changed, put_back, created, changed_there, after_kind, after, after_all}
 use Rattle.tree_shares.specs.Shares.{is_at}
 use Rattle.tree_shares.specs.Updates.{placed_one, placed, updates_at}
 use Rattle.tree_sound.proofs.Basics.{same, by_bool}
 
-abbrev pub created_at : Option Object → Option (Body × List ℕ) → Option Object
-created_at o None = o
-created_at o (Some b) = if is_allowed b.0 then Some (fresh b.0) else o
+abbrev pub created_at : Option Object → Result (Body × List ℕ) ImageFault → Option Object
+created_at o (Ok b) = Some (fresh b.0)
+created_at o (Err e) = o
 
 abbrev pub changed_at : Option Object → Kind → List ℕ → List ℕ → Option Object
 changed_at None k p q = None
 changed_at (Some o) k p q = changed o k p q
 
 abbrev pub effect_of : Kind → List ℕ → List ℕ → Option Object → Option Object
-effect_of kind.Create p q o = created_at o (body_at p)
+effect_of kind.Create p q o = created_at o (body_at (length p) p)
 effect_of k p q o = changed_at o k p q
 
 abbrev pub effect : Update → Option Object → Option Object
@@ -46,13 +47,9 @@ got_put_back : (m : ObjectMap) (f x : Fid) (r : Option Object) → get (put_back
 got_put_back m f x None = get-remove fids_total m f x
 got_put_back m f x (Some o) = get-insert fids_total m f o x
 
-got_created : (m : ObjectMap) (f x : Fid) (b : Option (Body × List ℕ)) → get (created m f b) x ≡ cond (same x f) (created_at (get m x) b) (get m x)
-got_created m f x None = either_same (same x f) (get m x)
-got_created m f x (Some b) = by_allowed (is_allowed b.0)
-  where
-    by_allowed : (a : Bool) → get (if a then insert m f (fresh b.0) else m) x ≡ cond (same x f) (if a then Some (fresh b.0) else get m x) (get m x)
-    by_allowed true = get-insert fids_total m f (fresh b.0) x
-    by_allowed false = either_same (same x f) (get m x)
+got_created : (m : ObjectMap) (f x : Fid) (b : Result (Body × List ℕ) ImageFault) → get (created m f b) x ≡ cond (same x f) (created_at (get m x) b) (get m x)
+got_created m f x (Ok b) = get-insert fids_total m f (fresh b.0) x
+got_created m f x (Err e) = either_same (same x f) (get m x)
 
 got_there : (m : ObjectMap) (f x : Fid) (o : Option Object) → get m f ≡ o → (k : Kind) (p q : List ℕ) → get (changed_there m f o k p q) x ≡ cond (same x f) (changed_at o k p q) (get m x)
 got_there m f x None is k p q =
@@ -68,7 +65,7 @@ at_same m f x k p q =
     (λ s. ap (λ b. cond b (changed_at (get m f) k p q) (get m x)) s ∙ sym (ap (λ b. cond b (changed_at (get m x) k p q) (get m x)) s))
 
 got_kind : (m : ObjectMap) (f x : Fid) (k : Kind) (p q : List ℕ) → get (after_kind m f k p q) x ≡ cond (same x f) (effect_of k p q (get m x)) (get m x)
-got_kind m f x kind.Create p q = got_created m f x (body_at p)
+got_kind m f x kind.Create p q = got_created m f x (body_at (length p) p)
 got_kind m f x k p q = got_there m f x (get m f) refl k p q ∙ at_same m f x k p q
 
 pub got_after : (m : ObjectMap) (u : Update) (x : Fid) → get (after m u) x ≡ touched u x (get m x)

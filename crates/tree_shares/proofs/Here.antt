@@ -1,5 +1,5 @@
 -- What the updates of a change do to the objects of one node, over plain variables.
-use Rattle.std.proofs.Common.{◌≡◌, ◌≢◌, ◌≤◌, ◌<◌, ◌^◌, ◌+◌, ◌==◌, ◌||◌, if◌then◌else◌, ℕ, zero, suc, Bool, true, false, cond, List, [], ◌∷◌, ◌++◌, map, get_or, Option, Some, None, inl, inr, refl, sym, ap, ◌∙◌, arith}
+use Rattle.std.proofs.Common.{◌≡◌, ◌≢◌, ◌≤◌, ◌<◌, ◌^◌, ◌+◌, ◌==◌, ◌||◌, if◌then◌else◌, ℕ, zero, suc, Bool, true, false, cond, List, [], ◌∷◌, ◌++◌, length, map, get_or, Option, Some, None, inl, inr, refl, sym, ap, ◌∙◌, arith}
 use Rattle.std.proofs.lemmas.Bool.Decides.{nat_tests, eqb_tells}
 use Rattle.std.proofs.lemmas.List.FromFn.{length-range_with_len, get_or-range_with_len}
 use Rattle.std.proofs.lemmas.List.Folds.{list_any_at}
@@ -20,7 +20,8 @@ use Rattle.out_update.specs.declared.update.Kind.TheVariants as kind
 use Rattle.out_update.specs.Spelling.{fid_bytes}
 use Rattle.striped_dir.specs.Parts.{part_of_name, create_of, destroy_of}
 use Rattle.object_store.specs.declared.body.Body.{Body}
-use Rattle.object_store.specs.Bodies.{is_allowed, body_bytes, body_at}
+use Rattle.object_store.specs.ImageReading.{body_at}
+use Rattle.object_store.specs.Bodies.{is_allowed, body_bytes}
 use Rattle.object_store.specs.Objects.{Object, fresh}
 use Rattle.object_store.specs.Meaning.{with_entry}
 use Rattle.tree_shares.specs.Shares.{body_of, names_in, node_object, stripe_object, stripe_fid_of, stripe_of_directory}
@@ -81,12 +82,12 @@ stripe_allowed : (d : Fid) (i : ℕ) → i ≤ 15 → is_allowed (stripe_of_dire
 unfolding is_allowed
 stripe_allowed d i h = grind (arith, nat_tests)
 
-pub effect_create : (b : Body) (o : Option Object) → is_allowed b ≡ true → b.uid < 2 ^ 32 → b.gid < 2 ^ 32 → IsFid b.fid → created_at o (body_at (body_bytes b)) ≡ Some (fresh b)
-effect_create b o h u g f = ap (created_at o) (body_back b h u g f) ∙ ap (λ a. cond a (Some (fresh b)) o) h
+pub effect_create : (b : Body) (o : Option Object) → is_allowed b ≡ true → b.uid < 2 ^ 32 → b.gid < 2 ^ 32 → IsFid b.fid → created_at o (body_at (length (body_bytes b)) (body_bytes b)) ≡ Some (fresh b)
+effect_create b o h u g f = ap (created_at o) (body_back b h u g f)
 
 effect_create_stripe : (batch : ℕ) (d : Fid) (i : ℕ) (f : Fid) (o : Option Object) → IsFid d → i ≤ 15 → effect (create_of batch d i f) o ≡ Some (fresh (stripe_of_directory d i))
 effect_create_stripe batch d i f o fits low =
-    ap (λ bs. created_at o (body_at bs)) (stripe_bytes d i) ∙ effect_create (stripe_of_directory d i) o (stripe_allowed d i low) (omega arith) (omega arith) fits
+    ap (λ bs. created_at o (body_at (length bs) bs)) (stripe_bytes d i) ∙ effect_create (stripe_of_directory d i) o (stripe_allowed d i low) (omega arith) (omega arith) fits
 
 pub effects_created : (targets batch : ℕ) (d : Fid) (l : Layout) (q : Fid) → IsFid d → (is : List ℕ) → AreLow is → (o : Option Object)
     → effects (map (λ i. create_of batch d i (stripe_fid_of targets d l i)) is) q o ≡ cond (one_of targets d l q is) (Some (fresh (stripe_of_directory d (index_in l q)))) o

@@ -14,6 +14,10 @@ pub trait Disk: Drop {
     /// What contracts see of it.
     ghost shown: { Self → Shown };
 
+    /// That the disk was told to stop and start between two moments. Only `power_cycle` says so, and so a
+    /// contract that cites it can't be met without that call.
+    ghost cycled: { Shown → Shown → Type 0 };
+
     /// How many calls failed so far.
     fn faults(&self) -> u64
         ensures { result ≡ (shown self.now).faults };
@@ -55,7 +59,8 @@ pub trait Disk: Drop {
         ensures stays { Stays (shown self.old) (shown self.new) }
         ensures cause { HasCause (shown self.old).faults (shown self.new).faults result }
         ensures cycles { IsTrue (shown self.old).honest → Cycles result (shown self.old) (shown self.new) }
-        ensures flag { IsTrue (shown self.old).honest → (shown self.new).failed ≡ is_err result };
+        ensures flag { IsTrue (shown self.old).honest → (shown self.new).failed ≡ is_err result }
+        ensures cycled { cycled (shown self.old) (shown self.new) };
 
     /// What holds of each disk at any time.
     ghost whole: { (disk : Self) → IsWhole (shown disk) };
@@ -66,10 +71,14 @@ pub trait Plant: Disk {
     /// The fuse and the choice, where the disk has one.
     ghost fuse: { Self → Option Fuse };
 
+    /// That the disk was armed so, while it showed this. Only `arm` says so.
+    ghost armed: { ℕ → ℕ → Shown → Type 0 };
+
     /// Lets `after` calls of `write_at` and `sync` pass, and fails the next one. The choice says which of
     /// its unsettled bytes a later `power_cycle` keeps. A disk without a fuse is left as it is.
     fn arm(&mut self, after: u32, choice: u8)
         ensures shown { Self.shown self.new ≡ Self.shown self.old }
+        ensures armed { armed after choice (Self.shown self.old) }
         ensures set { OnSome (fuse self.old) (fuse self.new ≡ Some (record { left = Some after; choice = choice })) }
         ensures none { fuse self.old ≡ None → fuse self.new ≡ None };
 }

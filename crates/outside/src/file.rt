@@ -53,6 +53,8 @@ impl Disk for FileDisk {
       name = 0;
     } };
 
+    ghost cycled = { λ old new. Unit {0} };
+
     ghost whole = { λ d. record { tells = λ h. h; size = λ h. absurd (never_true h); image = λ h. absurd (never_true h) } };
 
     fn faults(&self) -> u64 {
@@ -85,6 +87,8 @@ impl Disk for FileDisk {
 
 impl Plant for FileDisk {
     ghost fuse = { λ d. None };
+
+    ghost armed = { λ after choice disk. Unit {0} };
 
     fn arm(&mut self, _after: u32, _choice: u8) {}
 }

@@ -40,6 +40,8 @@ impl MemoryDisk {
 impl Disk for MemoryDisk {
     ghost shown = { λ d. seen d };
 
+    ghost cycled = { λ old new. Unit {0} };
+
     ghost whole = { λ d. record {
       tells = λ h. h;
       size = λ h. d.fits.size;
@@ -130,6 +132,8 @@ impl Disk for MemoryDisk {
 
 impl Plant for MemoryDisk {
     ghost fuse = { λ d. fuse_of d };
+
+    ghost armed = { λ after choice disk. Unit {0} };
 
     fn arm(&mut self, after: u32, choice: u8)
         ensures shown { seen self.new ≡ seen self.old }

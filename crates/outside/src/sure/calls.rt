@@ -24,6 +24,8 @@ impl SureDisk {
 impl Disk for SureDisk {
     ghost shown = { λ d. seen d };
 
+    ghost cycled = { λ old new. Unit {0} };
+
     ghost whole = { λ d. record {
       tells = λ h. h;
       size = λ h. d.fits.size;
@@ -92,6 +94,8 @@ impl Disk for SureDisk {
 
 impl Plant for SureDisk {
     ghost fuse = { λ d. None };
+
+    ghost armed = { λ after choice disk. Unit {0} };
 
     fn arm(&mut self, _after: u32, _choice: u8) {}
 }

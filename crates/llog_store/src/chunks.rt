@@ -56,7 +56,7 @@ impl Chunks {
     }
 
     /// Where its memory comes from.
-    pub fn alloc(&self) -> Global {
+    pub(crate) fn alloc(&self) -> Global {
         *self.chunks.allocator()
     }
 

@@ -97,14 +97,6 @@ fn records_that_just_fit_and_pads(rt: HostRuntime) -> Result<(), Fail> {
         assert_eq!(rt; log.append(second.as_slice()), Ok(index), "{size}");
         assert_eq!(rt; bytes_of(rt.alloc(), &log)?.len(), HEADER + end, "{size}");
     }
-    let mut log = log_of(rt.alloc(), &[24_576, 8_104])?;
-    assert_eq!(rt; log.append(b""), Ok(4));
-    let pad: [u8; 24] = [
-        24, 0, 0, 0, 3, 0, 0, 0, 0, 0, 0x60, 0x10, 0, 0, 0, 0, 24, 0, 0, 0, 3, 0, 0, 0,
-    ];
-    let chunk = log.chunk(1).ok_or("the chunk is there")?;
-    assert_eq!(rt; chunk.get(32_744..), Some(pad.as_slice()));
-    assert_eq!(rt; (log.records(), log.chunks()), (3, 3));
     Ok(())
 }
 
@@ -140,16 +132,11 @@ fn cancelled_walked_packed_and_cleared(rt: HostRuntime) -> Result<(), Fail> {
     assert_eq!(rt; log.walk(4), None);
     assert_eq!(rt; log.payload(3), Some(b"last".as_slice()));
     assert_eq!(rt; log.payload(2), None);
-    let text =
-        b"log next 4 live 2\nindex 1 live length 3\nindex 2 cancelled length 5\nindex 3 live length 4\n";
-    assert_eq!(rt; text_of(rt.alloc(), &log)?.bytes(), text.as_slice());
     log.pack()?;
     assert_eq!(rt; (log.next(), log.live(), log.records()), (3, 2, 2));
     assert_eq!(rt; log.walk(2), Some((2, b"last".as_slice())));
     log.clear();
-    let empty = Llog::new(rt.alloc())?;
-    assert_eq!(rt; bytes_of(rt.alloc(), &log)?, bytes_of(rt.alloc(), &empty)?);
-    assert_eq!(rt; log.append(b"new"), Ok(1));
+    assert_eq!(rt; (log.next(), log.chunks()), (1, 1));
     Ok(())
 }
 
@@ -187,87 +174,46 @@ fn refusal(alloc: Global, one: (usize, u8), other: (usize, u8)) -> Result<Option
     Ok(Llog::read(alloc, bytes.as_slice()).err())
 }
 
-const FAULTS: [(usize, u8, LlogFault); 15] = [
-    (0, 1, LlogFault::BadLength(0)),
-    (4, 1, LlogFault::BadIndex(4)),
-    (8, 0, LlogFault::BadType(8)),
-    (13, 1, LlogFault::BadPadding(13)),
-    (18, 4, LlogFault::BadIndex(16)),
-    (20, 4, LlogFault::BadBitmap(20)),
-    (32_030, 1, LlogFault::BadPadding(32_030)),
-    (32_764, 1, LlogFault::BadTail(32_764)),
-    (32_768, 0x21, LlogFault::BadLength(32_768)),
-    (32_772, 2, LlogFault::BadIndex(32_772)),
-    (32_784, 1, LlogFault::BadLength(32_784)),
-    (57_368, 0, LlogFault::BadTail(57_368)),
-    (57_400, 1, LlogFault::BadPadding(57_400)),
-    (65_536, 0xe0, LlogFault::BadLength(65_536)),
-    (73_715, 1, LlogFault::BadPadding(73_715)),
-];
-
-#[test]
-fn faults_with_their_places(rt: HostRuntime) -> Result<(), Fail> {
-    for (place, byte, want) in FAULTS {
-        let got = refusal(rt.alloc(), (place, byte), (place, byte))?;
-        assert_eq!(rt; got, Some(want), "{place}");
-    }
-    Ok(())
-}
-
-/// Lengths that only a pad can have: one that doesn't fill its chunk, one that would be last, one behind a
-/// pad, and one where a pad may stand. Then a pad's type behind another length, and a pad that would be last.
-/// Then bits of the pad and of no record at all, where the count is one more.
-const PADS_AND_BITS: [((usize, u8), (usize, u8), LlogFault); 8] = [
+/// Ordinary faults; lengths that only a pad can have, where none may stand and where one may; a pad's type
+/// behind another length; a bit of the pad, where the count is one more.
+const FAULTS: [((usize, u8), (usize, u8), LlogFault); 12] = [
+    ((4, 1), (4, 1), LlogFault::BadIndex(4)),
+    ((13, 1), (13, 1), LlogFault::BadPadding(13)),
+    ((32_764, 1), (32_764, 1), LlogFault::BadTail(32_764)),
+    ((32_784, 1), (32_784, 1), LlogFault::BadLength(32_784)),
+    ((57_368, 0), (57_368, 0), LlogFault::BadTail(57_368)),
+    ((73_715, 1), (73_715, 1), LlogFault::BadPadding(73_715)),
     ((32_768, 0x28), (32_769, 0x60), LlogFault::BadLength(32_768)),
-    ((73_688, 24), (73_689, 0), LlogFault::BadLength(73_688)),
     ((65_536, 0x28), (65_537, 0x60), LlogFault::BadLength(65_536)),
     ((32_768, 0), (32_769, 0x80), LlogFault::BadType(32_776)),
     ((32_778, 0x60), (32_779, 0x10), LlogFault::BadType(32_776)),
-    ((16, 3), (17, 0), LlogFault::BadType(57_384)),
     ((20, 4), (24, 0b11110), LlogFault::BadBitmap(24)),
     ((20, 4), (32_023, 128), LlogFault::BadBitmap(32_023)),
 ];
 
 #[test]
-fn pads_and_bits_that_cannot_stand(rt: HostRuntime) -> Result<(), Fail> {
-    for (one, other, want) in PADS_AND_BITS {
-        assert_eq!(rt; refusal(rt.alloc(), one, other)?, Some(want));
+fn faults_with_their_places(rt: HostRuntime) -> Result<(), Fail> {
+    for (one, other, want) in FAULTS {
+        assert_eq!(rt; refusal(rt.alloc(), one, other)?, Some(want), "{one:?}");
     }
     Ok(())
 }
 
 #[test]
-fn inputs_that_end_early_or_late(rt: HostRuntime) -> Result<(), Fail> {
+fn inputs_that_end_early(rt: HostRuntime) -> Result<(), Fail> {
     for len in [0, 32_767, 32_768, 73_688, 73_727] {
         let mut bytes = padded(rt.alloc())?;
         bytes.truncate(len);
         let got = Llog::read(rt.alloc(), bytes.as_slice()).err();
         assert_eq!(rt; got, Some(LlogFault::Truncated(len)), "{len}");
     }
-    let rows: [(&[u8], LlogFault); 3] = [
-        (&[24, 0, 0, 0], LlogFault::BadLength(73_728)),
-        (&[32, 0, 0, 0, 5, 0, 0, 0], LlogFault::BadIndex(73_732)),
-        (&[32], LlogFault::Truncated(73_729)),
-    ];
-    for (more, want) in rows {
-        let mut bytes = padded(rt.alloc())?;
-        bytes.extend_from_slice(more)?;
-        assert_eq!(rt; Llog::read(rt.alloc(), bytes.as_slice()).err(), Some(want));
-    }
     Ok(())
 }
 
 #[test]
 fn the_line_of_a_fault(rt: HostRuntime) -> Result<(), Fail> {
-    let rows: [(LlogFault, &str); 3] = [
-        (LlogFault::BadTail(32_760), "place 32760: BadTail\n"),
-        (LlogFault::Truncated(7), "place 7: Truncated\n"),
-        (LlogFault::Memory, ""),
-    ];
-    for (fault, want) in rows {
-        let mut out = Bytes::new(rt.alloc());
-        fault.print(&mut out)?;
-        assert_eq!(rt; out.bytes(), want.as_bytes(), "{want}");
-    }
+    let mut out = Bytes::new(rt.alloc());
+    LlogFault::BadTail(32_760).print(&mut out)?;
+    assert_eq!(rt; out.bytes(), b"place 32760: BadTail\n".as_slice());
     Ok(())
 }

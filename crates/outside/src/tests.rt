@@ -1,5 +1,5 @@
 use crate::{
-    Sink, SinkFault, Source, SourceFault, Status, StreamSink, StreamSource, TakeFault, TextSink,
+    Sink, SinkFault, Source, SourceFault, StreamSink, StreamSource, TakeFault, TextSink,
     TextSource, put_all, take_all,
 };
 use std::io::{self, ErrorKind, Read, Write};
@@ -53,16 +53,6 @@ fn text_in_pieces(rt: HostRuntime) -> Result<(), Fail> {
     assert_eq!(rt; &into[..2], b"de".as_slice());
     assert_eq!(rt; source.read(&mut into), Ok(0));
     assert_eq!(rt; source.faults(), 1);
-    Ok(())
-}
-
-#[test]
-fn first_write_fails(rt: HostRuntime) -> Result<(), Fail> {
-    let mut sink = TextSink::new(rt.alloc(), &[1])?;
-    assert_eq!(rt; sink.write(b"ab"), Err(SinkFault::Failed));
-    assert_eq!(rt; (sink.faults(), sink.refused()), (1, 0));
-    assert_eq!(rt; sink.write(b"cd"), Ok(2));
-    assert_eq!(rt; sink.bytes(), b"cd".as_slice());
     Ok(())
 }
 
@@ -123,15 +113,5 @@ fn takes_all(rt: HostRuntime) -> Result<(), Fail> {
         take_all(rt.alloc(), &mut broken, 5),
         Err(TakeFault::Source)
     );
-    Ok(())
-}
-
-#[test]
-fn ends(rt: HostRuntime) -> Result<(), Fail> {
-    assert_eq!(rt; Status::Done.code(), 0);
-    assert_eq!(rt; Status::Refused.code(), 2);
-    assert_eq!(rt; Status::Memory.code(), 3);
-    assert_eq!(rt; Status::Source.code(), 4);
-    assert_eq!(rt; Status::Sink.code(), 5);
     Ok(())
 }

@@ -1,8 +1,8 @@
 use super::*;
-use fid_space::{Bytes, Cluster, Fid, Numbers, Targets};
-use std::alloc::Global;
+use fid_space::{Bytes, Cluster, Fid, Targets};
+use std::alloc::{AllocError as Memory, Global};
 use std::test::Fail;
-use tree_model::{Errno, Op, PlainTree, Reply};
+use tree_model::{Op, Reply};
 
 fn kind(read: &Result<Command, TextFault>) -> &'static str {
     match read {
@@ -79,8 +79,7 @@ fn tells_skipped_lines(rt: HostRuntime) -> Result<(), Fail> {
     Ok(())
 }
 
-/// The lines are the same whether the bytes come at once or one by one, and a long one shows at its byte
-/// 16,385.
+/// A line goes on in the next piece, and a long one shows at its byte 16,385.
 #[test]
 fn cuts_lines(rt: HostRuntime) -> Result<(), Fail> {
     let mut cutter = LineCutter::new(rt.alloc());
@@ -91,16 +90,6 @@ fn cuts_lines(rt: HostRuntime) -> Result<(), Fail> {
     assert_eq!(rt; cutter.feed(b"cd")?, Cut::More);
     assert_eq!(rt; cutter.line(), b"cd".as_slice());
     assert!(rt; cutter.is_open());
-    let mut cutter = LineCutter::new(rt.alloc());
-    let mut lines = Bytes::new(rt.alloc());
-    for byte in b"ab\n\ncd" {
-        if cutter.feed(&[*byte])? == (Cut::Line { used: 1 }) {
-            lines.append(cutter.line())?;
-            lines.push(b'|')?;
-        }
-    }
-    assert_eq!(rt; lines.bytes(), b"ab||".as_slice());
-    assert_eq!(rt; cutter.line(), b"cd".as_slice());
     let long = vec![in rt.alloc(); b'x'; 16_385]?;
     let mut cutter = LineCutter::new(rt.alloc());
     assert!(rt; long.len() == 16_385);
@@ -136,96 +125,42 @@ fn reads_the_parts_of_a_request(rt: HostRuntime) {
     }
 }
 
-fn numbers_of(alloc: Global, of: &[u32]) -> Result<Numbers, Fail> {
-    let mut numbers = Numbers::new(alloc);
-    for number in of {
-        numbers.push(*number)?;
-    }
-    Ok(numbers)
+/// What a line prints.
+fn printed(alloc: Global, line: Line) -> Result<Bytes, Memory> {
+    let mut out = Bytes::new(alloc);
+    line.print(&mut out)?;
+    Ok(out)
 }
 
+/// Lines that no scenario of one target has, or that need a broken disk.
 #[test]
 fn prints_lines(rt: HostRuntime) -> Result<(), Fail> {
     let alloc = rt.alloc();
-    let (number, last, target, gates) = (7, 65_536, 15, 3);
     let on = Targets::none().with(0).with(15).with(3);
-    let (reply, refused) = (Reply::Fid(Fid::ROOT), Reply::Err(Errno::EEXIST));
-    let (numbers, none) = (numbers_of(alloc, &[3, 1, 65_536])?, Numbers::new(alloc));
-    let standing = Standing::Opened;
-    let tree = PlainTree::new(alloc, Cluster::new(1).ok_or("a cluster")?)?;
-    let rows = [
-        (
-            Line::Accept { number, reply, on },
-            "accept 7 [0x200000007:0x1:0x0] on 0,3,15\n",
-        ),
-        (
-            Line::Reply {
-                number,
-                reply: refused,
-            },
-            "reply 7 EEXIST\n",
-        ),
-        (Line::Stale { number, last }, "stale 7 last 65536\n"),
-        (
-            Line::Recovering { number, target },
-            "recovering 7 target 15\n",
-        ),
-        (Line::Stable { target, numbers }, "stable 15 3,1,65536\n"),
-        (Line::Down(target), "down 15\n"),
-        (
-            Line::Up {
-                target,
-                transno: 9,
-                numbers: none,
-            },
-            "up 15 transno 9 holds -\n",
-        ),
-        (Line::DamagedGates { target, gates }, "damaged 15 gates 3\n"),
-        (
-            Line::DamagedImage {
-                target,
-                place: 33_546_224,
-            },
-            "damaged 15 image 33546224\n",
-        ),
-        (Line::State { target, standing }, "state 15 opened\n"),
-        (
-            Line::Tree(tree),
-            "tree 1 0\nnode [0x200000007:0x1:0x0] dir 0755 0 0 2\n",
-        ),
-        (Line::TreeState(target), "tree state 15\n"),
-        (Line::EndClean, "end clean\n"),
-        (Line::EndUnclean(target), "end unclean target 15\n"),
-    ];
-    for (line, want) in rows {
-        let mut out = Bytes::new(alloc);
-        line.print(&mut out)?;
-        assert_eq!(rt; out.bytes(), want.as_bytes(), "{want}");
-    }
-    Ok(())
-}
-
-#[test]
-fn prints_the_worked_transcripts(rt: HostRuntime) -> Result<(), Fail> {
-    let cluster = Cluster::new(1).expect(&rt, "one target");
-    let mut tree = PlainTree::new(rt.alloc(), cluster)?;
-    let mut empty = Bytes::new(rt.alloc());
-    tree.print(&mut empty)?;
-    print_stable(0, &Numbers::new(rt.alloc()), &mut empty)?;
-    Line::EndClean.print(&mut empty)?;
-    assert_eq!(rt; empty.bytes(), empty_transcript().as_bytes());
-
-    let line = b"send 1 0 create [0x200000007:0x1:0x0] a [0x200000400:0x1:0x0]";
-    let read = Command::parse(rt.alloc(), line.as_slice(), Some(cluster));
-    let mut first = Bytes::new(rt.alloc());
-    if let Ok(Command::Send(request)) = read {
-        let reply = tree.apply(&request.op)?;
-        print_accept(1, &reply, Targets::none().with(0), &mut first)?;
-        print_reply(1, &reply, &mut first)?;
-        tree.print(&mut first)?;
-        print_stable(0, &numbers_of(rt.alloc(), &[1])?, &mut first)?;
-        Line::EndClean.print(&mut first)?;
-    }
-    assert_eq!(rt; first.bytes(), first_transcript().as_bytes());
+    let accept = Line::Accept {
+        number: 7,
+        reply: Reply::Fid(Fid::ROOT),
+        on,
+    };
+    assert_eq!(rt;
+        printed(alloc, accept)?.bytes(),
+        b"accept 7 [0x200000007:0x1:0x0] on 0,3,15\n".as_slice()
+    );
+    let gates = Line::DamagedGates {
+        target: 15,
+        gates: 3,
+    };
+    assert_eq!(rt;
+        printed(alloc, gates)?.bytes(),
+        b"damaged 15 gates 3\n".as_slice()
+    );
+    let image = Line::DamagedImage {
+        target: 15,
+        place: 33_546_224,
+    };
+    assert_eq!(rt;
+        printed(alloc, image)?.bytes(),
+        b"damaged 15 image 33546224\n".as_slice()
+    );
     Ok(())
 }

@@ -247,41 +247,6 @@ fn items_out_of_order(rt: HostRuntime) -> Result<(), Fail> {
     check_changed(&rt, alloc, &two_objects(alloc)?, &rows)
 }
 
-/// Does one update. The objects then have an image of so many bytes.
-fn check_size(
-    rt: &impl Abort,
-    alloc: Global,
-    objects: &mut Objects,
-    kind: u16,
-    oid: u32,
-    params: &[&[u8]],
-    size: u64,
-) -> Result<(), Fail> {
-    run(alloc, objects, kind, oid, params)?;
-    let mut out = Bytes::new(alloc);
-    out.push(7)?;
-    objects.encode(&mut out)?;
-    assert_eq!(rt; objects.size(), size, "{kind} {oid}");
-    assert_eq!(rt; out.len() as u64, size.wrapping_add(1), "{kind} {oid}");
-    Ok(())
-}
-
-#[test]
-fn the_image_after_updates(rt: HostRuntime) -> Result<(), Fail> {
-    let alloc = rt.alloc();
-    let mut objects = some_objects(alloc)?;
-    let child = fid_bytes(alloc, 9)?;
-    let entry = [b"bb".as_slice(), child.as_slice()];
-    let value = [b"x".as_slice(), b"longer than 8".as_slice()];
-    check_size(&rt, alloc, &mut objects, 10, 2, &entry, 368)?;
-    check_size(&rt, alloc, &mut objects, 10, 2, &entry, 368)?;
-    check_size(&rt, alloc, &mut objects, 11, 2, &[b"a".as_slice()], 336)?;
-    check_size(&rt, alloc, &mut objects, 7, 1, &value, 344)?;
-    check_size(&rt, alloc, &mut objects, 13, 1, &[b"x".as_slice()], 312)?;
-    check_size(&rt, alloc, &mut objects, 2, 2, &[], 184)?;
-    Ok(())
-}
-
 /// The image in pieces of a length, each of which is also what stands at its place.
 fn check_pieces(
     rt: &impl Abort,

@@ -61,34 +61,6 @@ fn fuse_runs_down(rt: HostRuntime) -> Result<(), Fail> {
 }
 
 #[test]
-fn listed_calls_fail(rt: HostRuntime) -> Result<(), Fail> {
-    // A write that fails by its number puts its byte, and one after a fault does not.
-    for (call, want, faults, byte) in [
-        (1, [false, false, false, true], 3, 0),
-        (2, [true, false, false, true], 2, 7),
-        (3, [true, true, false, true], 1, 7),
-        (4, [true, true, true, false], 1, 7),
-    ] {
-        let mut disk = MemoryDisk::new(rt.alloc(), &[0, call])?;
-        let mut into = [0u8];
-        disk.arm(9, 255);
-        let passed = [
-            disk.read_at(0, &mut into).is_ok(),
-            disk.write_at(0, &[7]).is_ok(),
-            disk.sync().is_ok(),
-            disk.power_cycle().is_ok(),
-        ];
-        assert_eq!(rt; passed, want, "call {call}");
-        assert_eq!(rt; (disk.faults(), disk.refused()), (faults, 0), "call {call}");
-        assert_eq!(rt; disk.read_at(0, &mut into).is_err(), call == 4);
-        assert_eq!(rt; disk.power_cycle(), Ok(()));
-        assert_eq!(rt; disk.read_at(0, &mut into), Ok(()));
-        assert_eq!(rt; into[0], byte, "call {call}");
-    }
-    Ok(())
-}
-
-#[test]
 fn unwritten_page_is_zeros(rt: HostRuntime) -> Result<(), Fail> {
     let mut disk = MemoryDisk::new(rt.alloc(), &[])?;
     let mut into = [1u8; 4];

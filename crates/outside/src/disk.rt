@@ -18,6 +18,9 @@ pub trait Disk: Drop {
     /// contract that cites it can't be met without that call.
     ghost cycled: { Shown → Shown → Type 0 };
 
+    /// What holds of each disk at any time.
+    ghost whole: { (disk : Self) → IsWhole (shown disk) };
+
     /// How many calls failed so far.
     fn faults(&self) -> u64
         ensures { result ≡ (shown self.now).faults };
@@ -61,9 +64,6 @@ pub trait Disk: Drop {
         ensures cycles { IsTrue (shown self.old).honest → Cycles result (shown self.old) (shown self.new) }
         ensures flag { IsTrue (shown self.old).honest → (shown self.new).failed ≡ is_err result }
         ensures cycled { cycled (shown self.old) (shown self.new) };
-
-    /// What holds of each disk at any time.
-    ghost whole: { (disk : Self) → IsWhole (shown disk) };
 }
 
 /// A disk that can be told to fail.

@@ -17,3 +17,4 @@ pub mod Prefix
 pub mod Filling
 pub mod Room
 pub mod Lending
+pub mod Standing

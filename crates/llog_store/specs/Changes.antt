@@ -1,6 +1,6 @@
 -- What the calls make of a log.
 use Rattle.std.specs.Prelude.{ℕ, ◌+◌, ◌==◌, ◌&&◌, nat_le, true, false, List, [], ◌∷◌, ◌++◌, length, map, if◌then◌else◌, Option, Some, None}
-use Rattle.llog_store.specs.Log.{Entry, Log, record_size, index_of, log_text, empty_log}
+use Rattle.llog_store.specs.Log.{Entry, Log, record_size, start_of, index_of, entry_end, log_text, empty_log}
 
 -- the index that a payload gets: it is the next one, or the one after a pad
 abbrev pub given_index : Log → List ℕ → ℕ
@@ -43,3 +43,9 @@ first_live from (e ∷ es) = if e.live && nat_le from e.index then Some (e.index
 unfoldable pub live_payload : ℕ → List Entry → Option (List ℕ)
 live_payload index [] = None
 live_payload index (e ∷ es) = if e.live && (e.index == index) then Some e.payload else live_payload index es
+
+-- where the payload of the live record with an index begins, if the records begin at a place: behind the
+-- record's first 24 bytes
+unfoldable pub live_place : ℕ → ℕ → List Entry → Option ℕ
+live_place place index [] = None
+live_place place index (e ∷ es) = if e.live && (e.index == index) then Some (start_of place (record_size (length e.payload)) + 24) else live_place (entry_end place e) index es

@@ -19,7 +19,10 @@ mod walking;
 
 pub use append::{AppendFault, NotLive};
 pub use fault::LlogFault;
-pub use llog::{Llog, half_cancelled_packs, lengths_of_logs, one_spelling_per_log};
+pub use llog::{
+    Llog, a_payload_stands_at_its_place, half_cancelled_packs, lengths_of_logs,
+    one_spelling_per_log,
+};
 
 #[cfg(test)]
 mod tests;

@@ -8,7 +8,7 @@ ghost use Rattle.fid_space.specs.Fronts.{IsFront};
 ghost use Rattle.llog_store.specs.DecodedText.{decoded_text};
 ghost use Rattle.llog_store.specs.Log.{Log, IsLog, spells, empty_log, is_live, live_count, log_text, record_size};
 ghost use Rattle.llog_store.specs.Kept.{seen, IsWithin, lost_before, behind_pad, append_fault, Refuses, Packs};
-ghost use Rattle.llog_store.specs.Changes.{given_index, appended, all_appended, cancelled, live_payloads, packed, repacked, first_live, live_payload};
+ghost use Rattle.llog_store.specs.Changes.{given_index, appended, all_appended, cancelled, live_payloads, packed, repacked, first_live, live_payload, live_place};
 
 use crate::append::{AppendFault, NotLive};
 use crate::checking::parts;
@@ -203,6 +203,18 @@ impl Llog {
         let (_, payload) = self.walk(index)?;
         Some(payload)
     }
+
+    /// Where the payload of the live record with an index begins, in the chunks joined: an offset in bytes.
+    pub fn place(&self, index: u32) -> Option<u64>
+        ensures { result ≡ live_place 32768 index self.now.entries }
+    {
+        if !has_live(&self.bytes, index) {
+            return None;
+        }
+        let places = self.places.as_slice();
+        let place = places[count_before(places, index)];
+        Some(place.at as u64 + 24)
+    }
 }
 
 /// The log that the bytes spell.
@@ -253,6 +265,13 @@ fn pack_records(alloc: Global, bytes: &Chunks, places: &[Place]) -> Result<Optio
 /// contract is a law.
 pub fn half_cancelled_packs()
     ensures { (log : Log) → IsLog log → 2 * live_count log.entries ≤ length log.entries → (packed log).next ≤ 256000 }
+{}
+
+/// A payload stands in the log's spelling where `place` says, and has a place exactly where it is lent. The
+/// call does nothing: its contract is a law.
+pub fn a_payload_stands_at_its_place()
+    ensures stands { (log : Log) (index at : ℕ) (payload : List ℕ) → IsLog log → live_place 32768 index log.entries ≡ Some at → live_payload index log.entries ≡ Some payload → take (length payload) (drop at (log_text log)) ≡ payload }
+    ensures both { (log : Log) (index : ℕ) → (live_place 32768 index log.entries ≡ None) ↔ (live_payload index log.entries ≡ None) }
 {}
 
 /// How long logs are: what an index costs at least, what that leaves, what a record adds at most, and that

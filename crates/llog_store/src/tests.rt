@@ -72,6 +72,7 @@ fn one_record(rt: HostRuntime) -> Result<(), Fail> {
         b'c', 0, 0, 0, 0, 0, 40, 0, 0, 0, 1, 0, 0, 0,
     ];
     assert_eq!(rt; log.chunk(1), Some(record.as_slice()));
+    assert_eq!(rt; log.place(1), Some(32_792));
     let header = log.chunk(0).ok_or("the header is there")?;
     assert_eq!(rt;
         header.get(16..25),

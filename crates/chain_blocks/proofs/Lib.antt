@@ -1,3 +1,10 @@
 pub mod Counting
 pub mod Trails
 pub mod Marking
+pub mod Found
+pub mod Spans
+pub mod Taking
+pub mod Blank
+pub mod Filling
+pub mod Writing
+pub mod Reading

@@ -83,7 +83,7 @@ pub met_out : (count : ℕ) (seen here : List ℕ) (at : ℕ) → count ≤ at �
 unfolding met
 met_out count seen here at le = cond-false (ltb at count) (cond (eqb (times at here) 0) (cond (eqb (times at seen) 0) None (Some (Shared at))) (Some (Loop at))) (Some (OutOfRange at)) (le-ltb at count le)
 
-met_in : (count : ℕ) (seen here : List ℕ) (at : ℕ) → at < count → met count seen here at ≡ cond (eqb (times at here) 0) (cond (eqb (times at seen) 0) None (Some (Shared at))) (Some (Loop at))
+pub met_in : (count : ℕ) (seen here : List ℕ) (at : ℕ) → at < count → met count seen here at ≡ cond (eqb (times at here) 0) (cond (eqb (times at seen) 0) None (Some (Shared at))) (Some (Loop at))
 unfolding met
 met_in count seen here at lt = cond-true (ltb at count) (cond (eqb (times at here) 0) (cond (eqb (times at seen) 0) None (Some (Shared at))) (Some (Loop at))) (Some (OutOfRange at)) (lt-ltb at count lt)
 
@@ -175,7 +175,7 @@ drop_head [] i lt = absurd (omega arith)
 drop_head (x ∷ xs) zero lt = refl
 drop_head (x ∷ xs) (suc i) lt = let e : suc (i + 1) ≡ suc i + 1 = omega arith in drop_head xs i (omega arith) ∙ ap (λ (j : ℕ). get_or xs i 0 ∷ drop j (x ∷ xs)) e
 
-walk_head : (links seen : List ℕ) (head : ℕ) (heads : List ℕ) → head ≢ last_link → walk_heads links seen (head ∷ heads) ≡ then_ok (walk (suc (length links)) links seen [] head) (λ chain. behind (chain ∷ []) (walk_heads links (seen ++ chain) heads))
+pub walk_head : (links seen : List ℕ) (head : ℕ) (heads : List ℕ) → head ≢ last_link → walk_heads links seen (head ∷ heads) ≡ then_ok (walk (suc (length links)) links seen [] head) (λ chain. behind (chain ∷ []) (walk_heads links (seen ++ chain) heads))
 unfolding walk_heads
 walk_head links seen head heads ne = cond-false (eqb head last_link) (Err (OutOfRange head)) (then_ok (walk (suc (length links)) links seen [] head) (λ chain. behind (chain ∷ []) (walk_heads links (seen ++ chain) heads))) (ne_eqb head last_link ne)
 
@@ -183,7 +183,7 @@ walk_head_out : (links seen : List ℕ) (head : ℕ) (heads : List ℕ) → head
 unfolding walk_heads
 walk_head_out links seen head heads is = cond-true (eqb head last_link) (Err (OutOfRange head)) (then_ok (walk (suc (length links)) links seen [] head) (λ chain. behind (chain ∷ []) (walk_heads links (seen ++ chain) heads))) (eq-eqb head last_link is)
 
-walk_no_head : (links seen : List ℕ) → walk_heads links seen [] ≡ Ok []
+pub walk_no_head : (links seen : List ℕ) → walk_heads links seen [] ≡ Ok []
 unfolding walk_heads
 walk_no_head links seen = refl
 

@@ -1,3 +1,4 @@
 pub mod Chains
 pub mod Walk
 pub mod Marks
+pub mod Stored

@@ -48,3 +48,9 @@ unless_lost (Some block) judged = Err (Lost block)
 -- the chains of the heads, then the free blocks, then all blocks by number
 unfoldable pub judged : List ℕ → List ℕ → ℕ → Result Judged ChainFault
 judged links heads free = then_ok (walk_heads links [] heads) (λ chains. then_ok (walk (suc (length links)) links (joined chains) [] free) (λ frees. unless_lost (first_lost (length links) 0 (joined chains ++ frees)) (record { free = frees; chains = chains })))
+
+-- the first blocks of chains
+abbrev pub heads_of : List (List ℕ) → List ℕ
+heads_of [] = []
+heads_of ([] ∷ chains) = heads_of chains
+heads_of ((b ∷ bs) ∷ chains) = b ∷ heads_of chains

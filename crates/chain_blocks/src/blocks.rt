@@ -1,6 +1,7 @@
 //! Blocks that are free or stand in chains.
-ghost use Rattle.std.specs.Prelude.{◌≡◌, ◌<◌, ◌≤◌, ◌+◌, ℕ, List, [], ◌∷◌, ◌++◌, length, slice_get, if◌then◌else◌, nat_lt, IfOk, OnOk, OnErr};
+ghost use Rattle.std.specs.Prelude.{◌≡◌, ◌<◌, ◌≤◌, ◌+◌, ℕ, List, [], ◌∷◌, ◌++◌, length, slice_get, slice_index_or, if◌then◌else◌, nat_lt, IfOk, OnOk, OnErr};
 ghost use Rattle.chain_blocks.specs.Marks.{Judges};
+ghost use Rattle.chain_blocks.specs.Stored.{Took};
 ghost use Rattle.chain_blocks.specs.Chains.{Linked, numbers, Holds, IsHead, IsTail, IsTrail, Takes, LinksBehind, last_link};
 
 use crate::marks::{find_lost, mark_chain, mark_heads, no_marks};
@@ -136,6 +137,41 @@ impl Blocks {
         };
         self.links[tail as usize] = block;
         Ok(block)
+    }
+
+    /// How many blocks are free.
+    pub fn spare(&self) -> u32
+        ensures count { (free : List ℕ) → (chains : List (List ℕ)) → Holds self.now free chains → result ≡ length free }
+        ensures lists { (free : List ℕ) × (chains : List (List ℕ)) × Holds self.now free chains }
+    {
+        self.spare
+    }
+
+    // The block behind one, or `LAST`.
+    pub(crate) fn next(&self, block: u32) -> u32
+        requires { block < length self.now.links }
+        ensures { result ≡ slice_index_or self.now.links block last_link }
+    {
+        self.links[block as usize]
+    }
+
+    // Takes the first free blocks, as a chain of so many.
+    pub(crate) fn take_chain(&mut self, count: u32) -> u32
+        requires some { 1 ≤ count }
+        requires enough { (free : List ℕ) × (chains : List (List ℕ)) × Holds self.old free chains × (count ≤ length free) }
+        ensures { (free : List ℕ) → (chains : List (List ℕ)) → Holds self.old free chains → Took count free chains result self.new }
+    {
+        let Ok(head) = self.take() else {
+            unreachable!();
+        };
+        let mut tail = head;
+        for _i in 1..count {
+            match self.link_after(tail) {
+                Ok(block) => tail = block,
+                Err(_) => unreachable!(),
+            }
+        }
+        head
     }
 
     /// Makes the blocks of a chain free, before those that are.

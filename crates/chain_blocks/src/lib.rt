@@ -6,8 +6,12 @@
 #![tactic(auto)]
 
 mod blocks;
+mod chain;
+mod laws;
 mod marks;
 #[cfg(test)]
 mod tests;
 
 pub use blocks::{Blocks, ChainFault, Full};
+pub use chain::{ChainReadFault, ChainWriteFault};
+pub use laws::{a_chain_reads_back, the_lists_are_those_found};

@@ -1,4 +1,6 @@
-use crate::{Blocks, ChainFault, Full};
+use crate::{Blocks, ChainFault, ChainWriteFault, Full};
+use fid_space::Bytes;
+use outside::MemoryDisk;
 use std::alloc::Global;
 use std::test::Fail;
 
@@ -47,4 +49,44 @@ fn faults_of_links(rt: HostRuntime) {
         let answer = Blocks::from_links(rt.alloc(), &links, heads, free);
         assert_eq!(rt; answer.err(), Some(want));
     }
+}
+
+/// A chain of three blocks is written behind one that was taken, and read back.
+fn written(alloc: Global, bytes: &[u8]) -> Option<(u32, Bytes)> {
+    let mut blocks = Blocks::new(alloc, 4).ok()?;
+    let mut disk = MemoryDisk::new(alloc, &[]).ok()?;
+    blocks.take().ok()?;
+    let head = blocks.write_chain(&mut disk, 8192, bytes).ok()?;
+    let mut out = Bytes::new(alloc);
+    blocks.read_chain(&mut disk, 8192, head, &mut out).ok()?;
+    Some((head, out))
+}
+
+#[test]
+fn a_chain_reads_back(rt: HostRuntime) -> Result<(), Fail> {
+    let mut bytes = Vec::new(rt.alloc());
+    for i in 0..8193usize {
+        bytes.push((i % 251) as u8)?;
+    }
+    let Some((head, out)) = written(rt.alloc(), &bytes) else {
+        panic!(rt; "it wasn't written");
+    };
+    assert_eq!(rt; head, 1);
+    assert_eq!(rt; out.len(), 12288);
+    assert_eq!(rt; &out.bytes()[..8193], bytes.as_slice());
+    assert_eq!(rt; out.get(8193), Some(0));
+    Ok(())
+}
+
+#[test]
+fn too_few_blocks(rt: HostRuntime) -> Result<(), Fail> {
+    let mut blocks = Blocks::new(rt.alloc(), 1)?;
+    let mut disk = MemoryDisk::new(rt.alloc(), &[1])?;
+    let long = vec![in rt.alloc(); 7; 4097]?;
+    let answer = blocks.write_chain(&mut disk, 0, &long);
+    assert_eq!(rt; answer, Err(ChainWriteFault::Full(2)));
+    let answer = blocks.write_chain(&mut disk, 0, &long[..4096]);
+    assert_eq!(rt; answer, Err(ChainWriteFault::Disk));
+    assert_eq!(rt; blocks.free(), 0);
+    Ok(())
 }

@@ -1,9 +1,7 @@
 -- One client's seat, while replies are put.
 use Rattle.std.proofs.Common.{◌≡◌, ◌≢◌, ◌≤◌, ◌<◌, ◌⊎◌, inl, inr, ⊎_elim, ℕ, Bool, true, false, ◌==◌, nat_lt, if◌then◌else◌, length, List, [], ◌∷◌, ◌++◌, Option, Some, None, slice_index_or, slice_set, refl, sym, ap, ◌∙◌, subst, arith}
-use Rattle.std.specs.List.{AllByRecursion, Contains}
-use Rattle.std.proofs.lemmas.List.Elements.{Contains-push, Contains-append_left}
+use Rattle.std.specs.List.{AllByRecursion}
 use Rattle.std.proofs.lemmas.List.{get_or-set_same, get_or-set_other, get_or-replicate, length-set, length-replicate, append-nil, append_assoc}
-use Rattle.tree_model.specs.declared.reply.Reply.{Reply}
 use Rattle.reply_cache.specs.declared.seats.Seat.{Seat}
 use Rattle.reply_cache.specs.Seats.{no_seats, refusal_of, put_seat, has_later, seated}
 use Rattle.reply_cache.specs.SeatLaws.{Put, after_puts, IsGreatest, SeatsHaveTheGreatest}
@@ -20,27 +18,62 @@ all_weaker : {A : Type 0} (P Q : A → Type 0) (xs : List A) → ((x : A) → P 
 all_weaker P Q [] f a = tt
 all_weaker P Q (y ∷ ys) f a = (f y a.0, all_weaker P Q ys f a.1)
 
+all_append : {A : Type 0} (P : A → Type 0) (xs ys : List A) → AllByRecursion P xs → AllByRecursion P ys → AllByRecursion P (xs ++ ys)
+all_append P [] ys a b = b
+all_append P (x ∷ xs) ys a b = (a.0, all_append P xs ys a.1 b)
+
 module _ (client : ℕ) (puts : List Put) (p : Put) where
   -- the newest reply is the greatest
   newest : p.client ≡ client → AllByRecursion (λ q. q.client ≡ client → q.number ≤ p.number) puts
       → IsGreatest client (puts ++ p ∷ []) (Some (record { number = p.number; refused = refusal_of p.reply }))
-  newest same all = ((p, Contains-push puts p, same, refl, refl), all_push (λ q. q.client ≡ client → q.number ≤ p.number) puts p all (λ _. let n = p.number in omega arith))
+  newest same all = (puts, p, [], refl, same, refl, refl, all, tt)
+
+  -- a seat with a greater number stays
+  kept : (s : Seat) → p.number < s.number → IsGreatest client puts (Some s) → IsGreatest client (puts ++ p ∷ []) (Some s)
+  kept s late (before, q, after, e, c, n, r, low, lower) = (
+    before,
+    q,
+    after ++ p ∷ [],
+    ap (λ xs. xs ++ p ∷ []) e ∙ append_assoc before (q ∷ after) (p ∷ []),
+    c,
+    n,
+    r,
+    low,
+    all_push (λ q. q.client ≡ client → q.number < s.number) after p lower (λ _. late),
+  )
+
+  -- no number that was put is above the seat's
+  below : (s : Seat) → IsGreatest client puts (Some s) → AllByRecursion (λ q. q.client ≡ client → q.number ≤ s.number) puts
+  below s (before, q, after, e, c, n, r, low, lower) =
+      subst (λ xs. AllByRecursion (λ q. q.client ≡ client → q.number ≤ s.number) xs) (sym e)
+      (all_append (λ q. q.client ≡ client → q.number ≤ s.number) before (q ∷ after) low
+      ((λ _. omega (arith, n)), all_weaker (λ q. q.client ≡ client → q.number < s.number) (λ q. q.client ≡ client → q.number ≤ s.number) after (λ q l c. let m = l c in omega (arith, m)) lower))
 
   own : (seat : Option Seat) → p.client ≡ client → IsGreatest client puts seat → IsGreatest client (puts ++ p ∷ []) (seated seat p.number p.reply)
   own None same g = newest same (all_weaker (λ q. q.client ≢ client) (λ q. q.client ≡ client → q.number ≤ p.number) puts (λ q n e. absurd (n e)) g)
   own (Some s) same g = ⊎_elim
       (λ (late : nat_lt p.number s.number ≡ true).
       subst (λ b. IsGreatest client (puts ++ p ∷ []) (if b then Some s else Some (record { number = p.number; refused = refusal_of p.reply }))) (sym late)
-        ((g.0.0, Contains-append_left puts (p ∷ []) g.0.0 g.0.1, g.0.2, g.0.3, g.0.4), all_push (λ q. q.client ≡ client → q.number ≤ s.number) puts p g.1 (λ _. grind (arith, late))))
+      (kept s (grind (arith, late)) g))
       (λ (fresh : nat_lt p.number s.number ≡ false).
       subst (λ b. IsGreatest client (puts ++ p ∷ []) (if b then Some s else Some (record { number = p.number; refused = refusal_of p.reply }))) (sym fresh)
-        (newest same (all_weaker (λ q. q.client ≡ client → q.number ≤ s.number) (λ q. q.client ≡ client → q.number ≤ p.number) puts
-          (λ q below e. let l = below e in grind (arith, l, fresh)) g.1)))
+      (newest same (all_weaker (λ q. q.client ≡ client → q.number ≤ s.number) (λ q. q.client ≡ client → q.number ≤ p.number) puts
+      (λ q below e. let l = below e in grind (arith, l, fresh)) (below s g))))
       (by_bool (nat_lt p.number s.number))
 
   other : (seat : Option Seat) → p.client ≢ client → IsGreatest client puts seat → IsGreatest client (puts ++ p ∷ []) seat
   other None apart g = all_push (λ q. q.client ≢ client) puts p g apart
-  other (Some s) apart g = ((g.0.0, Contains-append_left puts (p ∷ []) g.0.0 g.0.1, g.0.2, g.0.3, g.0.4), all_push (λ q. q.client ≡ client → q.number ≤ s.number) puts p g.1 (λ e. absurd (apart e)))
+  other (Some s) apart (before, q, after, e, c, n, r, low, lower) = (
+    before,
+    q,
+    after ++ p ∷ [],
+    ap (λ xs. xs ++ p ∷ []) e ∙ append_assoc before (q ∷ after) (p ∷ []),
+    c,
+    n,
+    r,
+    low,
+    all_push (λ q. q.client ≡ client → q.number < s.number) after p lower (λ e. absurd (apart e)),
+  )
 
   -- all seats after one reply more, by whether the client's seat has a later number
   abbrev pub seats_by : List (Option Seat) → Bool → List (Option Seat)
@@ -66,8 +99,8 @@ module _ (client : ℕ) (puts : List Put) (p : Put) where
       let e : p.client ≡ client = grind (arith, same) in
       let b = has_later (slice_index_or seats p.client None) p.number in
       let at : slice_index_or (put_seat seats p.client p.number p.reply) client None ≡ seated (slice_index_or seats client None) p.number p.reply =
-          subst (λ c. slice_index_or (put_seat seats p.client p.number p.reply) c None ≡ seated (slice_index_or seats c None) p.number p.reply) e
-            (own_seat seats (slice_index_or seats p.client None) b (subst (λ c. c < length seats) (sym e) below) refl) in
+      subst (λ c. slice_index_or (put_seat seats p.client p.number p.reply) c None ≡ seated (slice_index_or seats c None) p.number p.reply) e
+      (own_seat seats (slice_index_or seats p.client None) b (subst (λ c. c < length seats) (sym e) below) refl) in
       subst (λ s. IsGreatest client (puts ++ p ∷ []) s) (sym at) (own (slice_index_or seats client None) e g))
       (λ (apart : (p.client == client) ≡ false).
       let e : p.client ≢ client = grind (arith, apart) in
@@ -88,4 +121,4 @@ all_put client (p ∷ ps) puts seats many below g =
 pub seats_have_the_greatest : SeatsHaveTheGreatest
 seats_have_the_greatest puts client below =
     all_put client puts [] no_seats (length-replicate {A = Option Seat} 64 None) below
-      (subst (λ s. IsGreatest client [] s) (sym (get_or-replicate {A = Option Seat} 64 client None None below)) tt)
+    (subst (λ s. IsGreatest client [] s) (sym (get_or-replicate {A = Option Seat} 64 client None None below)) tt)

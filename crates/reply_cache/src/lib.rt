@@ -12,3 +12,5 @@ mod seats;
 pub use laws::a_seat_has_the_greatest_number;
 pub use seats::{Judgement, Seat, Seats};
 
+#[cfg(test)]
+mod tests;

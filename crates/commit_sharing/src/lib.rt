@@ -5,9 +5,13 @@
 //! sync is asked for exactly where an object was seen whose writer isn't on all targets of the operation.
 #![tactic(auto)]
 
+mod laws;
 mod pending;
 mod sharing;
 
+pub use laws::{a_sync_is_for_the_first_writer, a_writer_is_the_last_noted};
 pub use pending::Pending;
 pub use sharing::{Seen, must_sync};
 
+#[cfg(test)]
+mod tests;

@@ -1,4 +1,4 @@
-ghost use Rattle.std.specs.Prelude.{◌≡◌, OnOk, OnErr, Some};
+ghost use Rattle.std.specs.Prelude.{◌≡◌, IfOk, IsSome, OnOk, OnErr};
 ghost use Rattle.std.specs.FinMap as map;
 ghost use Rattle.commit_sharing.specs.Pending.{noted, put_back};
 
@@ -62,14 +62,13 @@ impl Pending {
         ensures before { IfOk result (λ before. before ≡ map.get self.old fid) }
         ensures err { OnErr result (self.new ≡ self.old) }
     {
-        match self.writers.insert(fid, (number, on)) {
-            Ok(before) => Ok(before),
-            Err(_) => Err(Memory),
-        }
+        let before = self.writers.insert(fid, (number, on))?;
+        Ok(before)
     }
 
-    /// Puts back what was noted of an object before.
+    /// Puts back what was noted before of an object of which something is noted now.
     fn put_back(&mut self, fid: Fid, before: Option<(u32, Targets)>)
+        requires { IsSome (map.get self.old fid) }
         ensures { self.new ≡ put_back self.old fid before }
     {
         match before {

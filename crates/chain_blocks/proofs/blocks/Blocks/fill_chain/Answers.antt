@@ -89,7 +89,7 @@ loop-i-preserved g c =
           let piece = take k (drop (4096 * i) bytes) in
           let still = subst IsTrue (sym stays.honest) honest in
           let writes = subst (λ p. Writes p (filled 1 piece) c.write_block.result mid new) c.place_of.ensures (c.write_block.ensures.writes still) in
-          let size = (g.met.D.Disk.whole c.loop-i.disk).size still in
+          let size = (g.D.Disk.whole c.loop-i.disk).size still in
           filling_next c.args.at i c.loop-i.block bytes chain piece c.write_block.result old mid new lt at.0
           (λ b. omega (arith, at_most_once c.args.self.now free (chain ∷ chains) holds b, times-append b chain (joined chains)))
           (omega (arith, count.least)) (piece_is i k bytes k_is) (piece_fits i k bytes k_is) (omega (arith, at.1, c.requires.within, size)) writes ((ok.writes still).written ∙ ap (λ p. put mid.content p (filled 1 piece)) c.place_of.ensures) (c.loop-i.invariant.filled honest free chain chains holds trail count);

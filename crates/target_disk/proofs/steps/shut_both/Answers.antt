@@ -15,7 +15,7 @@ returns-clause-first g c = λ honest.
     let also : IsTrue two.honest = subst IsTrue (sym c.write_at-2.ensures.stays.honest) still in
     let is : three.content ≡ put (put old.content (gate_at false) (0 ∷ [])) (gate_at true) (0 ∷ []) =
     (c.sync.ensures.syncs also).content ∙ (c.in_ok-write_at-2.ensures.writes still).written ∙ ap (λ at. put one.content at (0 ∷ [])) c.gate_of-2.ensures ∙ ap (λ l. put l (gate_at true) (0 ∷ [])) ((c.in_ok-write_at.ensures.writes honest).written ∙ ap (λ at. put old.content at (0 ∷ [])) c.gate_of.ensures) in
-    on_ok c.sync.result (ap (is_open false) is ∙ (both_shut old.content ((g.met.D.Disk.whole c.args.disk.now).size honest)).0)
+    on_ok c.sync.result (ap (is_open false) is ∙ (both_shut old.content ((g.D.Disk.whole c.args.disk.now).size honest)).0)
 
 pub returns-clause-second : goal.returns-clause-second
 returns-clause-second g c = λ honest.
@@ -27,4 +27,4 @@ returns-clause-second g c = λ honest.
     let also : IsTrue two.honest = subst IsTrue (sym c.write_at-2.ensures.stays.honest) still in
     let is : three.content ≡ put (put old.content (gate_at false) (0 ∷ [])) (gate_at true) (0 ∷ []) =
     (c.sync.ensures.syncs also).content ∙ (c.in_ok-write_at-2.ensures.writes still).written ∙ ap (λ at. put one.content at (0 ∷ [])) c.gate_of-2.ensures ∙ ap (λ l. put l (gate_at true) (0 ∷ [])) ((c.in_ok-write_at.ensures.writes honest).written ∙ ap (λ at. put old.content at (0 ∷ [])) c.gate_of.ensures) in
-    on_ok c.sync.result (ap (is_open true) is ∙ (both_shut old.content ((g.met.D.Disk.whole c.args.disk.now).size honest)).1)
+    on_ok c.sync.result (ap (is_open true) is ∙ (both_shut old.content ((g.D.Disk.whole c.args.disk.now).size honest)).1)

@@ -10,7 +10,7 @@ invariant_of-result g c = λ honest works.
     let one = g.D.Disk.shown c.find_current.new.disk in
     let two = g.D.Disk.shown c.read_image.new.disk in
     let is : IsTrue old.honest = subst IsTrue (c.read_image.ensures.keeps.stays.honest ∙ c.find_current.ensures.stays.honest) honest in
-    let tells : IsTrue old.tells = (g.met.D.Disk.whole c.args.disk).tells is in
+    let tells : IsTrue old.tells = (g.D.Disk.whole c.args.disk).tells is in
     let still : IsTrue one.tells = subst IsTrue (sym c.find_current.ensures.stays.tells) tells in
     let same : two.content ≡ old.content = c.read_image.ensures.keeps.content still ∙ c.find_current.ensures.content tells in
     subst (Knows c.in-Some.current.second c.in-Some.current.generation c.in-Some.current.spare_open) (sym same)

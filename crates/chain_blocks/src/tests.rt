@@ -1,6 +1,5 @@
 use crate::{Blocks, ChainFault, ChainWriteFault, Full};
-use fid_space::Bytes;
-use outside::MemoryDisk;
+use outside::{Disk, MemoryDisk};
 use std::alloc::Global;
 use std::test::Fail;
 
@@ -51,41 +50,35 @@ fn faults_of_links(rt: HostRuntime) {
     }
 }
 
-/// A chain of three blocks is written behind one that was taken, and read back.
-fn written(alloc: Global, bytes: &[u8]) -> Option<(u32, Bytes)> {
-    let mut blocks = Blocks::new(alloc, 4).ok()?;
-    let mut disk = MemoryDisk::new(alloc, &[]).ok()?;
-    blocks.take().ok()?;
-    let head = blocks.write_chain(&mut disk, 8192, bytes).ok()?;
-    let mut out = Bytes::new(alloc);
-    blocks.read_chain(&mut disk, 8192, head, &mut out).ok()?;
-    Some((head, out))
-}
-
+/// The last of three blocks holds one byte, and zeros behind it.
 #[test]
-fn a_chain_reads_back(rt: HostRuntime) -> Result<(), Fail> {
-    let mut bytes = Vec::new(rt.alloc());
-    for i in 0..8193usize {
-        bytes.push((i % 251) as u8)?;
-    }
-    let Some((head, out)) = written(rt.alloc(), &bytes) else {
-        panic!(rt; "it wasn't written");
-    };
-    assert_eq!(rt; head, 1);
-    assert_eq!(rt; out.len(), 12288);
-    assert_eq!(rt; &out.bytes()[..8193], bytes.as_slice());
-    assert_eq!(rt; out.get(8193), Some(0));
+fn a_chain_is_written(rt: HostRuntime) -> Result<(), Fail> {
+    let mut blocks = Blocks::new(rt.alloc(), 4)?;
+    let mut disk = MemoryDisk::new(rt.alloc(), &[])?;
+    let bytes = vec![in rt.alloc(); 7; 8193]?;
+    assert_eq!(rt; blocks.write_chain(&mut disk, 8192, &bytes), Ok(0));
+    let mut end = [9u8; 3];
+    assert_eq!(rt; disk.read_at(16_383, &mut end), Ok(()));
+    assert_eq!(rt; end, [7, 7, 0]);
+    assert_eq!(rt; blocks.free(), 3);
     Ok(())
 }
 
 #[test]
 fn too_few_blocks(rt: HostRuntime) -> Result<(), Fail> {
     let mut blocks = Blocks::new(rt.alloc(), 1)?;
-    let mut disk = MemoryDisk::new(rt.alloc(), &[1])?;
+    let mut disk = MemoryDisk::new(rt.alloc(), &[])?;
     let long = vec![in rt.alloc(); 7; 4097]?;
     let answer = blocks.write_chain(&mut disk, 0, &long);
     assert_eq!(rt; answer, Err(ChainWriteFault::Full(2)));
-    let answer = blocks.write_chain(&mut disk, 0, &long[..4096]);
+    Ok(())
+}
+
+#[test]
+fn a_call_of_the_disk_fails(rt: HostRuntime) -> Result<(), Fail> {
+    let mut blocks = Blocks::new(rt.alloc(), 1)?;
+    let mut disk = MemoryDisk::new(rt.alloc(), &[1])?;
+    let answer = blocks.write_chain(&mut disk, 0, b"a");
     assert_eq!(rt; answer, Err(ChainWriteFault::Disk));
     assert_eq!(rt; blocks.free(), 0);
     Ok(())

@@ -1,8 +1,9 @@
-pub mod Slots
+pub mod Tables
+pub mod Parts
 pub mod Calls
+pub mod Draft
 pub mod Consistent
 pub mod Store
 pub mod Steps
-pub mod Look
 pub mod Reads
 pub mod Open

@@ -1,22 +1,25 @@
-//! Where the gates and the slots lie.
-ghost use Rattle.std.specs.Prelude.{◌≡◌, ◌+◌, ◌≤◌};
-ghost use Rattle.outside.specs.Disk.{disk_len};
-ghost use Rattle.target_disk.specs.Slots.{gate_at, slot_at, slot_len};
+//! Where the gate, the tables and the blocks lie.
 
-/// The bytes of a slot.
-pub const SLOT_LEN: u64 = 33_546_240;
+/// The place of the gate.
+pub const GATE: u64 = 0;
 
-/// The place of a gate's byte.
-pub fn gate_of(second: bool) -> u64
-    ensures { result ≡ gate_at second }
-{
-    if second { 4096 } else { 0 }
-}
+/// The place of the home table.
+pub const HOME: u64 = 4096;
 
-/// The place of a slot.
-pub fn slot_of(second: bool) -> u64
-    ensures place { result ≡ slot_at second }
-    ensures within { result + slot_len ≤ disk_len }
-{
-    if second { 33_554_432 } else { 8192 }
-}
+/// The place of the journal table.
+pub const JOURNAL: u64 = 69_632;
+
+/// The place of the first block.
+pub const DATA: u64 = 135_168;
+
+/// How many blocks there are.
+pub const BLOCKS: u32 = 16_000;
+
+/// The bytes of a block.
+pub const BLOCK: usize = 4096;
+
+/// The bytes of a table.
+pub const TABLE: usize = 64_032;
+
+/// The most bytes of an image.
+pub const IMAGE_MOST: u64 = 32_768_000;

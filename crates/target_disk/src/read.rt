@@ -1,16 +1,17 @@
-//! Reads an image, piece by piece.
-ghost use Rattle.std.specs.Prelude.{◌≡◌, ◌+◌, ◌≤◌, ◌++◌, length, IsTrue, IfOk, OnOk, is_err, IsErrOf, true, false};
-ghost use Rattle.outside.specs.Causes.{Rose};
-ghost use Rattle.outside.specs.Disk.{disk_len, Shown, Stays, part};
+//! Reads the gate, a table and an image.
+ghost use Rattle.std.specs.Prelude.{◌≡◌, ◌≤◌, ◌∷◌, ◌*◌, ◌+◌, ℕ, List, length, take, false, IsTrue, IfOk, IsErrOf, is_err};
+ghost use Rattle.outside.specs.Causes.{HasCause, Rose};
+ghost use Rattle.outside.specs.Disk.{part};
+ghost use Rattle.chain_blocks.specs.Chains.{IsHead, IsTrail};
+ghost use Rattle.chain_blocks.specs.Stored.{stored};
+ghost use Rattle.target_disk.specs.Tables.{block_count, data_at, is_open, table_at, table_len};
 ghost use Rattle.target_disk.specs.Reads.{Keeps, ReadFlag};
-ghost use Rattle.target_disk.specs.Slots.{slot_len, slot_at};
 
-use crate::places::slot_of;
+use crate::places::{BLOCK, DATA, HOME, JOURNAL};
+use chain_blocks::{Blocks, ChainReadFault};
 use fid_space::Bytes;
-use outside::Disk;
-use std::alloc::{AllocError as Memory, Global};
-
-const PIECE: usize = 65_536;
+use outside::{Disk, DiskFault};
+use std::alloc::Global;
 
 /// Why an image wasn't read.
 #[derive(Clone, Copy, Debug, PartialEq, Eq)]
@@ -21,60 +22,45 @@ pub enum ReadFault {
     Memory,
 }
 
-/// Room for so many bytes.
-pub fn room(alloc: Global, len: usize) -> Result<Vec<u8>, Memory>
-    ensures { IfOk result (λ v. length v.items ≡ len) }
-{
-    vec![in alloc; 0; len]
-}
-
-/// Reads as many bytes as the room has, and adds them to the image.
-fn read_piece<D: Disk>(
-    disk: &mut D,
-    at: u64,
-    room: &mut [u8],
-    image: &mut Bytes,
-) -> Result<(), ReadFault>
-    requires fits { at + length room.old ≤ disk_len }
+/// Reads the gate, and the table that it names.
+pub fn look<D: Disk>(disk: &mut D, table: &mut Vec<u8>) -> Result<bool, DiskFault>
+    requires { length table.old.items ≡ table_len }
     ensures keeps { Keeps (D.shown disk.old) (D.shown disk.new) }
-    ensures cause { IsErrOf result ReadFault.Disk → Rose (D.shown disk.old).faults (D.shown disk.new).faults }
-    ensures flags { IsTrue (D.shown disk.old).honest → ReadFlag (D.shown disk.new).failed result }
-    ensures len { OnOk result (length image.new ≡ length image.old + length room.old) }
-    ensures image { IsTrue (D.shown disk.old).tells → OnOk result (image.new ≡ image.old ++ part at (length room.old) (D.shown disk.old).content) }
+    ensures cause { HasCause (D.shown disk.old).faults (D.shown disk.new).faults result }
+    ensures flag { IsTrue (D.shown disk.old).honest → (D.shown disk.new).failed ≡ is_err result }
+    ensures size { length table.new.items ≡ table_len }
+    ensures gate { IsTrue (D.shown disk.old).tells → IfOk result (λ gate. gate ≡ is_open (D.shown disk.old).content) }
+    ensures table { IsTrue (D.shown disk.old).tells → IfOk result (λ gate. table.new.items ≡ part (table_at gate) table_len (D.shown disk.old).content) }
 {
-    if disk.read_at(at, room).is_err() {
-        return Err(ReadFault::Disk);
-    }
-    if image.append(room).is_err() {
-        return Err(ReadFault::Memory);
-    }
-    Ok(())
+    let mut gate = [0];
+    disk.read_at(0, &mut gate)?;
+    let is_open = gate[0] == 1;
+    let at = if is_open { JOURNAL } else { HOME };
+    disk.read_at(at, table)?;
+    Ok(is_open)
 }
 
-/// Reads an image of so many bytes, which a slot holds.
+/// Reads an image of so many bytes, which a chain holds.
 pub fn read_image<D: Disk>(
     alloc: Global,
     disk: &mut D,
-    second: bool,
+    blocks: &Blocks,
+    head: u32,
     len: u64,
 ) -> Result<Bytes, ReadFault>
-    requires fits { 16 + len ≤ slot_len }
+    requires head { IsHead blocks.now head }
+    requires all { length blocks.now.links ≡ block_count }
     ensures keeps { Keeps (D.shown disk.old) (D.shown disk.new) }
     ensures cause { IsErrOf result ReadFault.Disk → Rose (D.shown disk.old).faults (D.shown disk.new).faults }
     ensures flags { IsTrue (D.shown disk.old).honest → (D.shown disk.old).failed ≡ false → ReadFlag (D.shown disk.new).failed result }
-    ensures image { IsTrue (D.shown disk.old).tells → IfOk result (λ v. v ≡ part (slot_at second + 16) len (D.shown disk.old).content) }
+    ensures image { IsTrue (D.shown disk.old).tells → (behind : List ℕ) → IsTrail blocks.now.links head (head ∷ behind) → IfOk result (λ v. v ≡ take len (stored (D.shown disk.old).content data_at (head ∷ behind))) }
 {
     let mut image = Bytes::new(alloc);
-    let Ok(mut room) = room(alloc, PIECE) else {
-        return Err(ReadFault::Memory);
-    };
-    let start = slot_of(second) + 16;
-    let size = len as usize;
-    let mut done = 0;
-    while done < size {
-        let n = PIECE.min(size - done);
-        read_piece(disk, start + done as u64, &mut room[..n], &mut image)?;
-        done += n;
+    match blocks.read_chain(disk, DATA, head, &mut image) {
+        Ok(()) => {}
+        Err(ChainReadFault::Disk) => return Err(ReadFault::Disk),
+        Err(ChainReadFault::Memory) => return Err(ReadFault::Memory),
     }
+    image.truncate(len as usize);
     Ok(image)
 }

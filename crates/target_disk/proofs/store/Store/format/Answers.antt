@@ -1,36 +1,28 @@
 use Rattle.std.specs.Prelude.{IsTrue}
-use Rattle.std.proofs.Common.{◌∙◌, sym, subst, ap, arith, refl, true, false}
-use Rattle.target_disk.specs.Slots.{Saved, entry}
+use Rattle.std.proofs.Common.{arith, subst, sym}
+use Rattle.target_disk.specs.Tables.{Saved}
 use Rattle.target_disk.specs.Store.{IsSettled}
-use Rattle.target_disk.proofs.Knowledge.{settled_opens, same_saved}
-use Rattle.target_disk.proofs.Entries.{opened_alone, entry_shut}
+use Rattle.target_disk.proofs.Opening.{settled_opens}
 use Rattle.target_disk.proofs.store.Store.format.Goals as goal
 
 pub invariant_of-result : goal.invariant_of-result
-invariant_of-result g c = λ honest works.
-    let new = g.D.Disk.shown c.make_slots.new.disk in
-    let is : IsTrue (g.D.Disk.shown c.args.disk).honest = subst IsTrue c.make_slots.ensures.stays.honest honest in
-    let makes = c.in-Ok.ensures.makes is in
-    let saved : Saved = record { generation = 1; bytes = c.args.image.now } in record {
-      current = (saved, makes.filled, refl);
-      chosen = λ s opens lt. sym (opened_alone false new.content (entry_shut true new.content makes.shut)) ∙ opens;
-      greatest = λ s opens. ap (λ (v : Saved). v.generation) (same_saved (entry false new.content) s saved (sym (opened_alone false new.content (entry_shut true new.content makes.shut)) ∙ opens) makes.filled);
-      gate = sym makes.shut;
-    }
+invariant_of-result g c = (c.in-Ok-fill.ensures.fits, λ honest works.
+    let is : IsTrue (g.D.Disk.shown c.args.disk).honest = subst IsTrue c.fill.ensures.stays.honest honest in
+    (c.in-Ok-fill.ensures.fills is).knows)
 
-pub returns-in-Ok-clause-ok : goal.returns-in-Ok-clause-ok
-returns-in-Ok-clause-ok g c =
-    let new = g.D.Disk.shown c.make_slots.new.disk in
+pub returns-in-Ok-fill-clause-ok : goal.returns-in-Ok-fill-clause-ok
+returns-in-Ok-fill-clause-ok g c =
+    let new = g.D.Disk.shown c.fill.new.disk in
     let saved : Saved = record { generation = 1; bytes = c.args.image.now } in
     let settled : IsTrue (g.D.Disk.shown c.args.disk).honest → IsSettled new saved = λ honest.
-    let makes = c.in-Ok.ensures.makes honest in record {
-      honest = subst IsTrue (sym c.make_slots.ensures.stays.honest) honest;
-      works = c.in-Ok.ensures.flag honest;
-      clean = makes.settled;
-      opens = opened_alone false new.content (entry_shut true new.content makes.shut) ∙ makes.filled;
+    let fills = c.in-Ok-fill.ensures.fills honest in record {
+      honest = subst IsTrue (sym c.fill.ensures.stays.honest) honest;
+      works = c.in-Ok-fill.ensures.flag honest;
+      clean = fills.settled;
+      opens = fills.opens;
     } in record {
-      stays = c.make_slots.ensures.stays;
-      later = c.make_slots.ensures.cause.later;
+      stays = c.fill.ensures.stays;
+      later = c.fill.ensures.cause.later;
       fits = omega arith;
       settled = settled;
       each = λ honest. settled_opens new saved (settled honest);

@@ -30,3 +30,8 @@ pub mod Turning
 pub mod Calm
 pub mod Members
 pub mod Instance
+pub mod Told
+pub mod Making
+pub mod Lives
+pub mod Cancels
+pub mod Refusals

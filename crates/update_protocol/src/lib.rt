@@ -11,7 +11,9 @@ ghost use Rattle.std.specs.Prelude.{[], Bool, List, Some, false, length, suc, ta
 ghost use Rattle.tree_model.specs.History.{IsLegal};
 ghost use Rattle.tree_model.specs.Kept.{HasNumber, IsKept, laid_of};
 ghost use Rattle.tree_model.specs.Striped.{on};
+ghost use Rattle.tree_model.specs.declared.errno.Errno.{Errno};
 ghost use Rattle.tree_model.specs.declared.op.Request.{Request};
+ghost use Rattle.tree_model.specs.declared.reply.Reply.{Reply};
 ghost use Rattle.update_protocol.specs.Epochs.{Epoch, Reached, Story, kept_of};
 ghost use Rattle.update_protocol.specs.Events.{Accept, Adopt, Commit, Execute_comes, May, Stop, Tear, happens};
 ghost use Rattle.op_laws.specs.Laws.{IsCount};
@@ -24,7 +26,7 @@ ghost use Rattle.update_protocol.specs.Recovery.{Gathered, Redo, before_item, ke
 ghost use Rattle.update_protocol.specs.Rows.{AreOfCut, FitsLog, FitsTarget, live, pending};
 ghost use Rattle.update_protocol.specs.Seats.{Newest};
 ghost use Rattle.tree_shares.specs.Seats.{share_of};
-ghost use Rattle.update_protocol.specs.World.{Accepted, Attempt, Each, Follows, History, Sync, World, at, count_home, is_on, made, master, request_of};
+ghost use Rattle.update_protocol.specs.World.{Accepted, Attempt, Each, Follows, History, Sync, Synced, World, at, count_home, is_on, made, master, request_of};
 ghost use Rattle.update_record.specs.Spelling.{targets_from};
 
 use op_laws::{
@@ -36,7 +38,7 @@ use tree_model::{
     layouts_are_beside_the_tree, only_looks_matter, only_written_keys_change,
     the_step_is_decided_by_looks,
 };
-use tree_shares::parts_are_of_targets;
+use tree_shares::{parts_are_of_targets, shares_tell};
 use tree_sound::histories_keep_trees_sound;
 
 /// All that the protocol needs of single operations, over the trees of histories. The call does nothing: its contract
@@ -203,4 +205,37 @@ pub fn an_operation_can_be_kept()
     ensures kept { (h : History) × Story 1 h × (length h ≡ 1) }
 {
     histories_keep_trees_sound();
+}
+
+/// There is a run in which an operation on two targets is accepted and executed, one of them stops before it has
+/// committed, and a recovery redoes the operation there.
+pub fn an_operation_can_be_redone()
+    ensures redone { (e : Epoch 3 []) × (length e.world.since ≡ 1) × (is_on (at e.world.since 0) 0 ≡ true) × (is_on (at e.world.since 0) 1 ≡ true) × (e.world.disk 0 ≡ 0 ∷ []) × (e.world.disk 1 ≡ [])
+        × (e.redos ≡ (1, 0 ∷ []) ∷ []) × (e.disks 1 ≡ 0 ∷ []) }
+    ensures kept { (h : History) × Story 3 h × (length h ≡ 1) }
+{
+    operations_have_laws();
+    histories_keep_trees_sound();
+    shares_tell();
+}
+
+/// There is a run in which an operation is committed on its two targets, its home raises its mark, and the record is
+/// cancelled at both.
+pub fn a_record_can_be_cancelled()
+    ensures cancelled { (w : World) × Reached 3 [] w × (length w.since ≡ 1) × (is_on (at w.since 0) 0 ≡ true) × (is_on (at w.since 0) 1 ≡ true) × (w.gone 0 ≡ 0 ∷ []) × (w.gone 1 ≡ 0 ∷ []) }
+{
+    operations_have_laws();
+    histories_keep_trees_sound();
+    shares_tell();
+}
+
+/// There is a run in which an operation is refused by what another one wrote on a target where the refusal takes no part:
+/// the refusal may be accepted behind a sync of that target, which was sent while the writer was pending there.
+pub fn a_refusal_can_wait_for_a_commit()
+    ensures waited { (w : World) × (x : Accepted) × Reached 3 [] w × May 3 w (Accept 0 x) × (x.reply ≡ Reply.Err Errno.EEXIST) × (is_on x 0 ≡ true) × (is_on x 1 ≡ false)
+        × (is_on (at w.since 1) 0 ≡ false) × IsIn (Sync x.attempt 1 1) w.pool × IsIn (Synced x.attempt 1) w.pool }
+{
+    operations_have_laws();
+    histories_keep_trees_sound();
+    shares_tell();
 }

@@ -53,11 +53,11 @@ numbers_in [] n m = absurd m
 numbers_in (i ∷ h) n (inl e) = inl (sym e)
 numbers_in (i ∷ h) n (inr m) = inr (numbers_in h n m)
 
-chosen_base : (base : History) (bs : List Bool) (h : History) → chosen (all_of base ++ bs) (base ++ h) ≡ base ++ chosen bs h
+pub chosen_base : (base : History) (bs : List Bool) (h : History) → chosen (all_of base ++ bs) (base ++ h) ≡ base ++ chosen bs h
 chosen_base [] bs h = refl
 chosen_base (i ∷ base) bs h = ap (λ t. i ∷ t) (chosen_base base bs h)
 
-chosen_kept : (kept : ℕ → Bool) (xs : List Accepted) (k : ℕ) → chosen (passing kept k xs) (entries_of xs) ≡ entries_of (kept_items kept k xs)
+pub chosen_kept : (kept : ℕ → Bool) (xs : List Accepted) (k : ℕ) → chosen (passing kept k xs) (entries_of xs) ≡ entries_of (kept_items kept k xs)
 chosen_kept kept [] k = refl
 chosen_kept kept (x ∷ xs) k = ⊎_elim
     (λ (yes' : kept k ≡ true). ap (λ b. chosen (b ∷ passing kept (suc k) xs) (entry x ∷ entries_of xs)) yes' ∙ ap (λ t. entry x ∷ t) (chosen_kept kept xs (suc k)) ∙ ap (λ b. entries_of (put_if b x (kept_items kept (suc k) xs))) (sym yes'))

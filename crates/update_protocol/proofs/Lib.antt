@@ -31,6 +31,13 @@ pub mod Calm
 pub mod Members
 pub mod Instance
 pub mod Told
+pub mod Naming
+pub mod Saying
+pub mod SayingAccept
+pub mod Fitting
+pub mod SayingUp
+pub mod SayingRecovery
+pub mod SayingRecovered
 pub mod Making
 pub mod Lives
 pub mod Cancels

@@ -13,18 +13,18 @@ use Rattle.update_protocol.specs.Recovery.{Gathered, Redo}
 use Rattle.update_protocol.specs.Rows.{FitsLog, FitsTarget, has, live, new_in, pending}
 use Rattle.update_protocol.specs.World.{Accepted, Execute, Full, History, World, at, is_on, master}
 
-has_mem : (n : ℕ) (xs : List ℕ) → has n xs ≡ true → IsIn n xs
+pub has_mem : (n : ℕ) (xs : List ℕ) → has n xs ≡ true → IsIn n xs
 has_mem n [] e = absurd (true≢false (sym e))
 has_mem n (x ∷ xs) e = elim (eqb_tells n x) [ inl q ↦ inl q.1 | inr q ↦ inr (has_mem n xs (sym (ap (λ b. b || has n xs) q.0) ∙ e)) ]
 
-mem_has : (n : ℕ) (xs : List ℕ) → IsIn n xs → has n xs ≡ true
+pub mem_has : (n : ℕ) (xs : List ℕ) → IsIn n xs → has n xs ≡ true
 mem_has n [] m = absurd m
 mem_has n (x ∷ xs) m = elim (eqb_tells n x) [
   | inl q ↦ ap (λ b. b || has n xs) q.0
   | inr q ↦ ap (λ b. b || has n xs) q.0 ∙ ⊎_elim (λ (e : n ≡ x). absurd (q.1 e)) (λ (h : IsIn n xs). mem_has n xs h) m
 ]
 
-has_not : (n : ℕ) (xs : List ℕ) → has n xs ≡ false → IsIn n xs → ⊥
+pub has_not : (n : ℕ) (xs : List ℕ) → has n xs ≡ false → IsIn n xs → ⊥
 has_not n xs e m = true≢false (sym (mem_has n xs m) ∙ e)
 
 -- LIVE RECORDS
@@ -32,14 +32,14 @@ has_not n xs e m = true≢false (sym (mem_has n xs m) ∙ e)
 abbrev pick : Bool → ℕ → List ℕ → List ℕ
 pick b n xs = if b then xs else n ∷ xs
 
-live_in : (xs gone : List ℕ) (n : ℕ) → IsIn n (live xs gone) → IsIn n xs
+pub live_in : (xs gone : List ℕ) (n : ℕ) → IsIn n (live xs gone) → IsIn n xs
 live_in [] gone n m = absurd m
 live_in (x ∷ xs) gone n m = ⊎_elim
     (λ (e : has x gone ≡ true). inr (live_in xs gone n (subst (λ b. IsIn n (pick b x (live xs gone))) e m)))
     (λ (e : has x gone ≡ false). ⊎_elim (λ (q : n ≡ x). inl q) (λ (h : IsIn n (live xs gone)). inr (live_in xs gone n h)) (subst (λ b. IsIn n (pick b x (live xs gone))) e m))
     (by_bool (has x gone))
 
-in_live : (xs gone : List ℕ) (n : ℕ) → IsIn n xs → (IsIn n gone → ⊥) → IsIn n (live xs gone)
+pub in_live : (xs gone : List ℕ) (n : ℕ) → IsIn n xs → (IsIn n gone → ⊥) → IsIn n (live xs gone)
 in_live [] gone n m out = absurd m
 in_live (x ∷ xs) gone n m out = ⊎_elim
     (λ (e : has x gone ≡ true). subst (λ b. IsIn n (pick b x (live xs gone))) (sym e) (⊎_elim (λ (q : n ≡ x). absurd (out (subst (λ k. IsIn k gone) (sym q) (has_mem x gone e)))) (λ (h : IsIn n xs). in_live xs gone n h out) m))
@@ -75,7 +75,7 @@ new_none : (disk xs : List ℕ) → ((n : ℕ) → IsIn n xs → IsIn n disk) �
 new_none disk [] f = refl
 new_none disk (x ∷ xs) f = ap (λ b. counted b (new_in disk xs)) (mem_has x disk (f x (inl refl))) ∙ new_none disk xs (λ n h. f n (inr h))
 
-not_has : (n : ℕ) (xs : List ℕ) → (IsIn n xs → ⊥) → has n xs ≡ false
+pub not_has : (n : ℕ) (xs : List ℕ) → (IsIn n xs → ⊥) → has n xs ≡ false
 not_has n xs f = ⊎_elim (λ (e : has n xs ≡ true). absurd (f (has_mem n xs e))) (λ (e : has n xs ≡ false). e) (by_bool (has n xs))
 
 new_all : (disk xs : List ℕ) → ((n : ℕ) → IsIn n xs → IsIn n disk → ⊥) → new_in disk xs ≡ length xs
@@ -113,7 +113,7 @@ rising_apart (x ∷ xs) ys r a b (inr h) g = rising_apart xs ys r.1 a b h g
 pub rest_apart : (xs ys : List ℕ) → Rising (xs ++ ys) → (n : ℕ) → IsIn n ys → IsIn n xs → ⊥
 rest_apart xs ys r n h g = let lt = rising_apart xs ys r n n g h in omega (arith, lt)
 
-length_join : (xs ys : List ℕ) → length (xs ++ ys) ≡ length xs + length ys
+pub length_join : (xs ys : List ℕ) → length (xs ++ ys) ≡ length xs + length ys
 length_join [] ys = sym (zero-add (length ys))
 length_join (x ∷ xs) ys = let ih : length (xs ++ ys) ≡ length xs + length ys = length_join xs ys in omega (arith, ih)
 
@@ -127,7 +127,7 @@ module _ (σ : Setting) (w : World) (i : Invariant σ.targets w) (t : ℕ) where
   torn_behind = front_of (w.disk t) (w.torn t) (i.durable.rising t) (i.tearing.torn_rising t) (i.tearing.torn_has t)
       (λ n m h g lt. let k = i.tearing.torn_known t n h in i.durable.prefix n m lt (i.durable.known t m g).0 t g k.1)
 
-  cancelled_full : (n : ℕ) → IsIn n (w.torn_gone t) → Full w.disk n (at w.since n)
+  pub cancelled_full : (n : ℕ) → IsIn n (w.torn_gone t) → Full w.disk n (at w.since n)
   cancelled_full n h = let d = i.tearing.torn_dropped t n h in ⊎_elim
       (λ (le : (at w.since n).batch ≤ w.kept_mark (master (at w.since n))). i.durable.under n d.0 le)
       (λ (own : (master (at w.since n) ≡ t) × ((at w.since n).batch ≤ w.torn_mark t)). i.tearing.torn_under n d.0 (subst (λ m. (at w.since n).batch ≤ w.torn_mark m) (sym own.0) own.1)) d.1
@@ -182,7 +182,7 @@ module _ (σ : Setting) where
       )
 
   module _ (base : History) (since : List Accepted) (disk : ℕ → List ℕ) (mark : ℕ → ℕ) (gone : ℕ → List ℕ) (kept : ℕ → Bool) (g : Gathered σ.targets base since disk mark gone kept) (t : ℕ) where
-    gone_named : (n : ℕ) → IsIn n (gone t) → Full disk n (at since n)
+    pub gone_named : (n : ℕ) → IsIn n (gone t) → Full disk n (at since n)
     gone_named n h = let c = g.cancelled t n h in g.under n c.0 c.1
 
     pub redo_old : FitsTarget since disk t (length (disk t)) (live (disk t) (gone t))

@@ -11,4 +11,5 @@ pub mod Rows
 pub mod Parts
 pub mod Progress
 pub mod Machine
+pub mod States
 pub mod Groups

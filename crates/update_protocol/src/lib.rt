@@ -7,7 +7,7 @@
 //! rest on the laws where its turns are events of this machine.
 #![tactic(auto)]
 
-ghost use Rattle.std.specs.Prelude.{[], Bool, List, Some, false, length, suc, take, true, ℕ, ◌++◌, ◌∷◌, ◌<◌, ◌≡◌, ◌≢◌};
+ghost use Rattle.std.specs.Prelude.{[], Bool, List, Some, false, length, suc, take, true, ℕ, ◌++◌, ◌+◌, ◌∷◌, ◌<◌, ◌≡◌, ◌≢◌};
 ghost use Rattle.tree_model.specs.History.{IsLegal};
 ghost use Rattle.tree_model.specs.Kept.{HasNumber, IsKept, laid_of};
 ghost use Rattle.tree_model.specs.Striped.{on};
@@ -15,18 +15,20 @@ ghost use Rattle.tree_model.specs.declared.errno.Errno.{Errno};
 ghost use Rattle.tree_model.specs.declared.op.Request.{Request};
 ghost use Rattle.tree_model.specs.declared.reply.Reply.{Reply};
 ghost use Rattle.update_protocol.specs.Epochs.{Epoch, Reached, Story, kept_of};
-ghost use Rattle.update_protocol.specs.Events.{Accept, Adopt, Commit, Execute_comes, May, Stop, Tear, happens};
+ghost use Rattle.update_protocol.specs.Events.{Accept, Adopt, Commit, Execute_comes, May, Start, Stop, Tear, fresh, happens};
 ghost use Rattle.op_laws.specs.Laws.{IsCount};
 ghost use Rattle.update_protocol.specs.Laws.{Laws};
 ghost use Rattle.update_protocol.specs.Lists.{IsIn, Rising, put};
+ghost use Rattle.update_protocol.specs.Machine.{Accept as Accept_line, Done, Line, Opened, Recovered, Redone, Replies, Says, Serving, Stable, Stopped, Up, is_read, stands_after, stays_smooth};
 ghost use Rattle.update_protocol.specs.Near.{Cause};
+ghost use Rattle.update_protocol.specs.States.{IsSplit, Spoken, gathered_state, number_at, numbers_at, state_of};
 ghost use Rattle.update_protocol.specs.Parts.{IsSent, all_of, entries_of, numbers_of, passing};
 ghost use Rattle.update_protocol.specs.Progress.{Asking, Note, Turn, Turns, idle};
 ghost use Rattle.update_protocol.specs.Recovery.{Gathered, Redo, before_item, kept_items};
 ghost use Rattle.update_protocol.specs.Rows.{AreOfCut, FitsLog, FitsTarget, live, pending};
 ghost use Rattle.update_protocol.specs.Seats.{Newest};
 ghost use Rattle.tree_shares.specs.Seats.{share_of};
-ghost use Rattle.update_protocol.specs.World.{Accepted, Attempt, Each, Follows, History, Sync, Synced, World, at, count_home, is_on, made, master, request_of};
+ghost use Rattle.update_protocol.specs.World.{Accepted, Attempt, Each, Follows, History, Sync, Synced, World, after_items, at, count_home, is_on, made, master, request_of};
 ghost use Rattle.update_record.specs.Spelling.{targets_from};
 
 use op_laws::{
@@ -40,6 +42,7 @@ use tree_model::{
 };
 use tree_shares::{parts_are_of_targets, shares_tell};
 use tree_sound::histories_keep_trees_sound;
+use update_record::targets_are_those_of_the_parts;
 
 /// All that the protocol needs of single operations, over the trees of histories. The call does nothing: its contract
 /// is a law, as that of each call below.
@@ -197,6 +200,56 @@ pub fn nothing_is_held_when_all_is_delivered()
     ensures free { (turns : List Turn) (w : Asking) → Turns idle turns w → w.fresh ≡ []
         → ((m : ℕ) (a : Attempt) → w.trying m ≡ Some a → (p : Note) × IsIn p (w.awaits m)) → (t : ℕ) (a : Attempt) → w.holder t ≢ Some a }
 {}
+
+/// What events say in the plain machine over several targets, whose state is a function of the world and of what commands
+/// and lines say by themselves: from the state before, the line of the event may be said, and the state after it is that
+/// of the next world.
+pub fn events_say_rows()
+    ensures accepted { (targets : ℕ) → IsCount targets → (h : History) (w : World) → Reached targets h w → (sent : ℕ → Request) → IsSent sent (h ++ entries_of w.since) → (o : Spoken)
+        → (m : ℕ) (x : Accepted) → May targets w (Accept m x) → request_of x ≡ sent (request_of x).number → IsIn (request_of x) o.sent → is_read (request_of x).op ≡ false → o.standing m ≡ Serving → (rest : List Line)
+        → Says (state_of targets o w) (Accept_line (request_of x).number x.reply (targets_from 0 x.parts)) (Replies (request_of x).number x.reply ∷ rest) (state_of targets o (happens w (Accept m x))) }
+    ensures executed { (targets : ℕ) → IsCount targets → (h : History) (w : World) → Reached targets h w → (sent : ℕ → Request) → IsSent sent (h ++ entries_of w.since) → (o : Spoken)
+        → (n t : ℕ) → May targets w (Execute_comes n t) → o.standing t ≡ Serving → (others : List Line)
+        → Says (state_of targets o w) (Done (number_at w.since n) t) others (state_of targets o (happens w (Execute_comes n t))) }
+    ensures committed { (targets : ℕ) → IsCount targets → (h : History) (w : World) → Reached targets h w → (sent : ℕ → Request) → IsSent sent (h ++ entries_of w.since) → (o : Spoken)
+        → (t : ℕ) (others : List Line) → Says (state_of targets o w) (Stable t (numbers_at w.since (pending w t))) others (state_of targets o (happens w (Commit t))) }
+    ensures stopped { (targets : ℕ) → IsCount targets → (h : History) (w : World) → Reached targets h w → (sent : ℕ → Request) → IsSent sent (h ++ entries_of w.since) → (o : Spoken)
+        → (t : ℕ) (others : List Line) → Says (state_of targets o w) (Stopped t) others (state_of targets (record o { standing = stands_after others t o.standing; smooth = stays_smooth others o.smooth }) (happens w (Stop t))) }
+    ensures torn { (targets : ℕ) → IsCount targets → (h : History) (w : World) → Reached targets h w → (sent : ℕ → Request) → IsSent sent (h ++ entries_of w.since) → (o : Spoken)
+        → (t : ℕ) (others : List Line) → Says (state_of targets o w) (Stopped t) others (state_of targets (record o { standing = stands_after others t o.standing; smooth = stays_smooth others o.smooth }) (happens w (Tear t))) }
+    ensures kept_image { (targets : ℕ) → IsCount targets → (h : History) (w : World) → Reached targets h w → (sent : ℕ → Request) → IsSent sent (h ++ entries_of w.since) → (o : Spoken)
+        → (t : ℕ) (others : List Line) → Says (state_of targets o w) (Up t (o.start t + length (w.disk t)) (numbers_at w.since (live (w.disk t) (w.kept_gone t)))) others (state_of targets (record o { standing = put o.standing t Opened }) w) }
+    ensures new_image { (targets : ℕ) → IsCount targets → (h : History) (w : World) → Reached targets h w → (sent : ℕ → Request) → IsSent sent (h ++ entries_of w.since) → (o : Spoken)
+        → (t : ℕ) → May targets w (Adopt t) → (others : List Line) → Says (state_of targets o w) (Up t (o.start t + length (w.torn t)) (numbers_at w.since (live (w.torn t) (w.torn_gone t)))) others (state_of targets (record o { standing = put o.standing t Opened }) (happens w (Adopt t))) }
+{
+    operations_have_laws();
+    targets_are_those_of_the_parts();
+}
+
+/// What a recovery says in the plain machine, once what served is committed: what it redoes at a target, and what a
+/// target shows that stopped in it, before or after the redone records were committed there.
+pub fn recoveries_say_rows()
+    ensures redone { (targets : ℕ) → IsCount targets → (base : History) (since : List Accepted) (disk : ℕ → List ℕ) (mark : ℕ → ℕ) (gone : ℕ → List ℕ) (kept : ℕ → Bool)
+        → Gathered targets base since disk mark gone kept → Follows targets base since → IsLegal targets (base ++ entries_of since) → (o : Spoken) (t : ℕ)
+        → (extra : List ℕ) → Redo since disk mark gone t extra → (others : List Line)
+        → Says (gathered_state targets o base since disk) (Redone t (numbers_at since extra)) others (gathered_state targets o base since (put disk t (disk t ++ extra))) }
+    ensures kept_image { (targets : ℕ) → IsCount targets → (base : History) (since : List Accepted) (disk : ℕ → List ℕ) (mark : ℕ → ℕ) (gone : ℕ → List ℕ) (kept : ℕ → Bool)
+        → Gathered targets base since disk mark gone kept → Follows targets base since → IsLegal targets (base ++ entries_of since) → (o : Spoken) (t : ℕ)
+        → (others : List Line) → Says (gathered_state targets o base since disk) (Up t (o.start t + length (disk t)) (numbers_at since (live (disk t) (gone t)))) others
+        (gathered_state targets (record o { standing = put o.standing t Opened }) base since disk) }
+    ensures redone_image { (targets : ℕ) → IsCount targets → (base : History) (since : List Accepted) (disk : ℕ → List ℕ) (mark : ℕ → ℕ) (gone : ℕ → List ℕ) (kept : ℕ → Bool)
+        → Gathered targets base since disk mark gone kept → Follows targets base since → IsLegal targets (base ++ entries_of since) → (o : Spoken) (t : ℕ)
+        → (extra : List ℕ) → Redo since disk mark gone t extra → (others : List Line)
+        → Says (gathered_state targets o base since disk) (Up t (o.start t + length (disk t ++ extra)) (numbers_at since (live (disk t ++ extra) (gone t)))) others
+        (gathered_state targets (record o { standing = put o.standing t Opened }) base since (put disk t (disk t ++ extra))) }
+    ensures recovered { (targets : ℕ) → IsCount targets → (h : History) → Story targets h → (e : Epoch targets h) → (sent : ℕ → Request) → IsSent sent (h ++ entries_of e.world.since) → (o : Spoken)
+        → (epoch : ℕ) → o.epoch < epoch → (o.smooth ≡ true → epoch ≡ suc o.epoch) → (kept lost : List ℕ) → IsSplit e.world.since e.kept kept lost → (s : Start) (others : List Line)
+        → Says (gathered_state targets o h e.world.since e.disks) (Recovered epoch kept lost) others
+        (state_of targets (record { sent = o.sent; epoch = epoch; smooth = true; standing = λ t. Serving; start = λ t. o.start t + length (e.disks t) }) (fresh s (after_items h (kept_of targets h e)))) }
+{
+    operations_have_laws();
+    targets_are_those_of_the_parts();
+}
 
 /// The premises of these laws can be met: there is a run in which an operation is accepted and committed before its
 /// target stops, and a recovery that keeps it.

@@ -59,7 +59,7 @@ full_named sets disk n x full (suc t) =
 
 -- ---- what an image shows
 
-distinct_numbers : (since : List Accepted) → Apart since → (ns : List ℕ) → Rising ns → ((k : ℕ) → IsIn k ns → k < length since) → AreDistinct (numbers_at since ns)
+pub distinct_numbers : (since : List Accepted) → Apart since → (ns : List ℕ) → Rising ns → ((k : ℕ) → IsIn k ns → k < length since) → AreDistinct (numbers_at since ns)
 distinct_numbers since far [] rises known = tt
 distinct_numbers since far (n ∷ ns) rises known = (
   (λ m. (let k = in_numbers since far ns (number_at since n) m in

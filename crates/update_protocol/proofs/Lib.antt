@@ -36,9 +36,12 @@ pub mod Saying
 pub mod SayingAccept
 pub mod Fitting
 pub mod SayingUp
+pub mod SayingLog
 pub mod SayingRecovery
 pub mod SayingRecovered
 pub mod Making
 pub mod Lives
 pub mod Cancels
 pub mod Refusals
+pub mod Renaming
+pub mod Renames

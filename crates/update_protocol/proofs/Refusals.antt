@@ -168,15 +168,15 @@ synced = go asked syncs
 
 -- ---- the syncs of a pool
 
-abbrev is_sync : Message → Bool
+abbrev pub is_sync : Message → Bool
 is_sync (Sync a t k) = true
 is_sync _ = false
 
-abbrev put_sync : Bool → Message → List Message → List Message
+abbrev pub put_sync : Bool → Message → List Message → List Message
 put_sync true p ps = p ∷ ps
 put_sync false p ps = ps
 
-abbrev syncs_in : List Message → List Message
+abbrev pub syncs_in : List Message → List Message
 syncs_in [] = []
 syncs_in (p ∷ ps) = put_sync (is_sync p) p (syncs_in ps)
 
@@ -184,7 +184,7 @@ kept : (b : Bool) (p q : Message) (ps : List Message) → IsIn p ps → IsIn p (
 kept true p q ps m = inr m
 kept false p q ps m = m
 
-sync_among : (p : Message) (ps : List Message) → is_sync p ≡ true → IsIn p ps → IsIn p (syncs_in ps)
+pub sync_among : (p : Message) (ps : List Message) → is_sync p ≡ true → IsIn p ps → IsIn p (syncs_in ps)
 sync_among p [] s m = m
 sync_among p (q ∷ ps) s m = ⊎_elim
     (λ (e : p ≡ q). subst (λ b. IsIn p (put_sync b q (syncs_in ps))) (sym (subst (λ q. is_sync q ≡ true) e s)) (inl e))
@@ -196,7 +196,7 @@ sync_target _ = 0
 
 -- ---- histories
 
-abbrev h1 : History
+abbrev pub h1 : History
 h1 = entry item ∷ []
 
 abbrev h2 : History
@@ -219,10 +219,10 @@ placed_both = both (λ a. (u : Update) → IsIn u a.question → a.at ≡ place 
     (λ u m. ⊎_elim (λ e. ap (λ (v : Update). place 3 v.fid) (sym e)) (λ none. absurd none) m) (λ u m. ⊎_elim (λ e. ap (λ (v : Update). place 3 v.fid) (sym e)) (λ none. absurd none) m)
 
 module _ (b : Below) where
-  one : Matches 3 [] item
+  pub one : Matches 3 [] item
   one = item_is b is_op
 
-  node_made : get (laid 3 h1).tree.nodes dir ≡ Some (directory_in root_fid)
+  pub node_made : get (laid 3 h1).tree.nodes dir ≡ Some (directory_in root_fid)
   node_made =
       ap (λ cs. get (laid_after_all (laid 3 []) cs).tree.nodes dir) (item_changes b)
       ∙ get-insert fids_total (laid 3 []).tree.nodes dir (directory_in root_fid) dir
@@ -234,10 +234,10 @@ module _ (b : Below) where
       (subst (λ cs. Misses (keys_of_all cs) (NameKey root_fid name_g)) (sym (item_changes b)) (refl, (refl, (refl, tt)))))
       ∙ no_names name_g
 
-  sound_one : IsSound 3 1 (laid 3 h1)
+  pub sound_one : IsSound 3 1 (laid 3 h1)
   sound_one = b.sounds 3 h1 (is_op, tt)
 
-  share_one : (t : ℕ) → t < 3 → share_of 3 h1 t ≡ applied 3 t item (share_of 3 [] t)
+  pub share_one : (t : ℕ) → t < 3 → share_of 3 h1 t ≡ applied 3 t item (share_of 3 [] t)
   share_one t lt = share_grown 3 b.laws [] item t one lt
 
   found_there : found.code ≡ 0

@@ -1,20 +1,23 @@
 -- What the end of a recovery says.
-use Rattle.std.proofs.Common.{◌≡◌, ◌<◌, inl, inr, ⊎_elim, ℕ, zero, suc, Bool, true, false, true≢false, if◌then◌else◌, ◌++◌, ◌+◌, List, [], ◌∷◌, length, refl, sym, ap, ◌∙◌, subst, arith, zero-add, add-zero}
+use Rattle.std.proofs.Common.{◌≡◌, ◌<◌, inl, inr, ⊎_elim, ℕ, zero, suc, Bool, true, false, true≢false, if◌then◌else◌, ◌||◌, ◌++◌, ◌+◌, List, [], ◌∷◌, length, refl, sym, ap, ◌∙◌, subst, arith, zero-add, add-zero}
 use Rattle.std.specs.Prelude.{not}
 use Rattle.std.specs.List.{AllByRecursion}
-use Rattle.tree_model.specs.History.{Item}
+use Rattle.tree_model.specs.History.{IsLegal, Item}
 use Rattle.tree_model.specs.Kept.{HasNumber, IsKept, chosen}
 use Rattle.tree_model.specs.declared.op.Request.{Request}
 use Rattle.update_protocol.specs.Epochs.{Epoch, Story, kept_of}
 use Rattle.update_protocol.specs.Events.{Start, fresh}
-use Rattle.update_protocol.specs.Lists.{IsIn}
-use Rattle.update_protocol.specs.Machine.{Entry, Recovers, Serving, State, all_named, history_of, number, some_named, those}
+use Rattle.update_protocol.specs.Lists.{IsIn, put}
+use Rattle.update_protocol.specs.Machine.{Entry, Line, Opened, Recovers, Says, Serving, State, Up, all_named, history_of, number, some_named, those}
 use Rattle.update_protocol.specs.Parts.{IsSent, all_of, entries_of, numbers_of, passing}
 use Rattle.update_protocol.specs.Recovery.{kept_items, put_if}
+use Rattle.tree_model.specs.Tree.{base as base_tree}
+use Rattle.update_protocol.specs.Rows.{has}
+use Rattle.update_protocol.proofs.Naming.{apart}
 use Rattle.update_protocol.specs.States.{IsSplit, Spoken, entries_at, entry_at, gathered_state, number_at, state_of}
 use Rattle.update_protocol.specs.World.{Accepted, Each, Follows, History, after_items, at, entry, is_on, master, request_of}
 use Rattle.update_protocol.proofs.Basics.{by_bool}
-use Rattle.update_protocol.proofs.Fitting.{all_entries, full_named}
+use Rattle.update_protocol.proofs.Fitting.{all_entries, full_named, put_self, up_says}
 use Rattle.update_protocol.proofs.Legal.{after_joined, chosen_base, chosen_kept}
 use Rattle.update_protocol.proofs.Redone.{mem_back, mem_front}
 use Rattle.update_protocol.proofs.Saying.{SetsOfParts}
@@ -24,8 +27,8 @@ use Rattle.update_protocol.proofs.Seating.{mem_all}
 use Rattle.update_protocol.proofs.Setting.{Setting}
 use Rattle.update_protocol.proofs.Shares.{home_part}
 use Rattle.update_protocol.proofs.Showing.{has_mem, mem_has}
-use Rattle.update_protocol.proofs.Stories.{absent, story_grounded, whole, whole_history}
-use Rattle.update_protocol.proofs.Whole.{epoch_kept}
+use Rattle.update_protocol.proofs.Stories.{absent, renewed, story_grounded, whole, whole_history}
+use Rattle.update_protocol.proofs.Whole.{epoch_kept, run_legal}
 
 -- ---- the end of a recovery
 
@@ -182,3 +185,16 @@ module _ (σ : Setting) (sets : SetsOfParts) (h : History) (story : Story σ.tar
     where
       old : IsKept σ.targets (h ++ entries_of e.world.since) (numbers_of (h ++ entries_of (kept_of σ.targets h e))) part
       old = epoch_kept σ h story e sent known
+
+  -- a target whose log was emptied shows no record: what it has is named by all
+  pub renewed_image : (sent : ℕ → Request) → IsSent sent (h ++ entries_of e.world.since) → (t : ℕ) (others : List Line)
+      → Says end (Up t (o.start t + length (e.disks t)) []) others (gathered_state σ.targets (record o { standing = put o.standing t Opened }) h e.world.since e.disks)
+  renewed_image sent known t others =
+      let legal : IsLegal σ.targets (h ++ entries_of e.world.since) = run_legal σ h story e.start e.events e.world e.run sent known in
+      let says = up_says σ.targets sets o h e.world.since (apart σ.targets base_tree h e.world.since legal) e.disks (λ t. []) t (length (e.disks t)) [] (renewed σ h (story_grounded σ h story) e t)
+      (e.disks t) refl (λ n l. or_none (has n (e.disks t))) others in
+      (says.0, sym (ap (λ (d : ℕ → List ℕ). gathered_state σ.targets (record o { standing = put o.standing t Opened }) h e.world.since d) (λ i s. put_self e.disks t s i)) ∙ says.1)
+    where
+      or_none : (b : Bool) → (b || false) ≡ b
+      or_none true = refl
+      or_none false = refl

@@ -9,24 +9,25 @@ use Rattle.tree_model.specs.Striped.{on as on_set}
 use Rattle.std.proofs.lemmas.Bool.Decides.{eqb_tells}
 use Rattle.tree_shares.specs.Parts.{parts, parts_from}
 use Rattle.tree_shares.specs.Updates.{placed_updates, updates_at}
+use Rattle.update_protocol.specs.Epochs.{Reached}
 use Rattle.update_protocol.specs.Facts.{laid}
 use Rattle.update_record.specs.Spelling.{has_target, targets_from}
 use Rattle.update_protocol.specs.Lists.{IsIn, Rising, put}
-use Rattle.update_protocol.specs.Machine.{Entry, Line, Opened, Redone, Says, State, Up, names, number, some_named, those}
+use Rattle.update_protocol.specs.Machine.{Entry, Line, Opened, Redone, Says, State, Stopped, Up, names, number, some_named, stands_after, stays_smooth, those}
 use Rattle.update_protocol.specs.Parts.{entries_of}
 use Rattle.update_protocol.specs.Recovery.{Gathered, Redo}
-use Rattle.update_protocol.specs.Rows.{has, live}
-use Rattle.update_protocol.specs.States.{Spoken, entries_at, entry_at, gathered_state, number_at, numbers_at}
-use Rattle.update_protocol.specs.World.{Accepted, Each, Follows, History, at, entry, is_on, request_of}
+use Rattle.update_protocol.specs.Rows.{has, live, pending}
+use Rattle.update_protocol.specs.States.{Spoken, entries_at, entry_at, gathered_state, number_at, numbers_at, state_of, state_with}
+use Rattle.update_protocol.specs.World.{Accepted, Each, Follows, History, World, at, entry, is_on, request_of}
 use Rattle.update_protocol.proofs.Basics.{by_bool}
 use Rattle.update_protocol.proofs.Fitting.{as_places, left_or, put_self, right_or, same_tests, up_says}
 use Rattle.update_protocol.proofs.Naming.{Apart, all_named_too, apart, has_join, has_number, lifted, many_numbers}
-use Rattle.update_protocol.proofs.Redone.{mem_front, redo_exact, redone_is}
-use Rattle.update_protocol.proofs.Saying.{SetsOfParts, parts_same}
-use Rattle.update_protocol.proofs.SayingUp.{new_names, old_names}
+use Rattle.update_protocol.proofs.Redone.{mem_back, mem_front, redo_exact, redone_is}
+use Rattle.update_protocol.proofs.Saying.{SetsOfParts, inv, parts_same}
+use Rattle.update_protocol.proofs.SayingUp.{new_names, nothing_in, old_names}
 use Rattle.update_protocol.proofs.Setting.{Setting}
 use Rattle.update_protocol.proofs.Shares.{places_from, placed}
-use Rattle.update_protocol.proofs.Showing.{gone_named, has_mem, has_not, length_join, mem_has, not_has, redo_new, redo_old}
+use Rattle.update_protocol.proofs.Showing.{gone_named, has_mem, has_not, length_join, mem_has, not_has, pends_behind, redo_new, redo_old, rest_apart}
 
 -- ---- who has named an entry
 
@@ -168,3 +169,23 @@ module _ (σ : Setting) (sets : SetsOfParts) (base : History) (since : List Acce
         longer =
             let a : length (disk t ++ extra) ≡ length (disk t) + length extra = length_join (disk t) extra in
             let b : length (numbers_at since extra) ≡ length extra = many_numbers since extra in omega (arith, a, b)
+
+-- ---- the beginning of a recovery, and stops in it
+
+module _ (σ : Setting) (h : History) (w : World) (r : Reached σ.targets h w) (o : Spoken) (all : (t n : ℕ) → IsIn n (w.done t) → IsIn n (w.disk t)) where
+  none_pends : (t : ℕ) → pending w t ≡ []
+  none_pends t = nothing_in (pending w t) (λ n m.
+      let i = inv σ h w r in
+      let behind : w.done t ≡ w.disk t ++ pending w t = pends_behind σ w i t in
+      rest_apart (w.disk t) (pending w t) (subst Rising behind (i.executed.in_order t)) n m (all t n (subst (λ l. IsIn n l) (sym behind) (mem_back (w.disk t) (pending w t) n m))))
+
+  pub gathered_is : state_of σ.targets o w ≡ gathered_state σ.targets o w.base w.since w.disk
+  gathered_is = λ i. state_with σ.targets o w.base w.since w.disk (λ t. none_pends t i)
+
+abbrev nothing : ℕ → List ℕ
+nothing s = []
+
+pub stop_says : (targets : ℕ) (o : Spoken) (base : History) (since : List Accepted) (disk : ℕ → List ℕ) (t : ℕ) (others : List Line)
+    → Says (gathered_state targets o base since disk) (Stopped t) others (gathered_state targets (record o { standing = stands_after others t o.standing; smooth = stays_smooth others o.smooth }) base since disk)
+stop_says targets o base since disk t others =
+    λ i. record (gathered_state targets (record o { standing = stands_after others t o.standing; smooth = stays_smooth others o.smooth }) base since disk) { pend = λ s. sym (put_self nothing t s) i }

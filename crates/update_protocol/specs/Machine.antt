@@ -207,14 +207,14 @@ pub record Recovers (s : State) (epoch : ℕ) (kept lost : List ℕ) (next : Sta
   pub only : AllByRecursion (λ i. IsIn i.request.number (numbers_of s.before ++ kept)) (chosen part (history_of s))
   pub after : next ≡ record s { epoch = epoch; smooth = true; before = chosen part (history_of s); since = []; standing = λ t. Serving; pend = λ t. [] }
 
+abbrev pub is_home : ℕ → Option ℕ → Bool
+is_home home None = false
+is_home home (Some m) = m == home
+
 -- of the entries with this home the one with the number is the so manieth
 abbrev pub position_of : ℕ → ℕ → ℕ → List Entry → ℕ
 position_of targets home n [] = 0
-position_of targets home n (e ∷ es) = if number e == n then 1 else (if at_home (entry_home targets e) then suc (position_of targets home n es) else position_of targets home n es)
-  where
-    at_home : Option ℕ → Bool
-    at_home None = false
-    at_home (Some m) = m == home
+position_of targets home n (e ∷ es) = if number e == n then 1 else (if is_home home (entry_home targets e) then suc (position_of targets home n es) else position_of targets home n es)
 
 abbrev pub IsListed : State → ℕ → Listed → Type 0
 IsListed s target r =

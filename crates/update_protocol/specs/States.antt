@@ -2,9 +2,9 @@
 use Rattle.std.specs.Prelude.{Bool, List, [], false, length, map, suc, true, ℕ, ◌+◌, ◌<◌, ◌∷◌, ◌≡◌}
 use Rattle.tree_model.specs.declared.op.Request.{Request}
 use Rattle.update_protocol.specs.Lists.{IsIn, Rising}
-use Rattle.update_protocol.specs.Machine.{Entry, Standing, State}
+use Rattle.update_protocol.specs.Machine.{Entry, Listed, Standing, State}
 use Rattle.update_protocol.specs.Rows.{has, pending}
-use Rattle.update_protocol.specs.World.{Accepted, History, World, at, entry, request_of}
+use Rattle.update_protocol.specs.World.{Accepted, History, World, at, entry, master, request_of}
 use Rattle.update_record.specs.Spelling.{targets_from}
 
 -- What commands and lines say by themselves: what was sent, the epoch, whether no target stopped in a recovery since, how
@@ -52,6 +52,15 @@ state_of targets o w = state_with targets o w.base w.since w.disk (pending w)
 -- the state in a recovery that has gathered: nothing is pending
 abbrev pub gathered_state : ℕ → Spoken → History → List Accepted → (ℕ → List ℕ) → State
 gathered_state targets o base since disk = state_with targets o base since disk (λ t. [])
+
+-- the records of these items in a log, each with its index
+abbrev pub listed_at : ℕ → List Accepted → ℕ → ℕ → Listed
+listed_at epoch since index n = record { index = index; epoch = epoch; master = master (at since n); batch = (at since n).batch; number = number_at since n; on = targets_from 0 (at since n).parts }
+
+abbrev pub listed : ℕ → List Accepted → List ℕ → List ℕ → List Listed
+listed epoch since [] ns = []
+listed epoch since (i ∷ is) [] = []
+listed epoch since (i ∷ is) (n ∷ ns) = listed_at epoch since i n ∷ listed epoch since is ns
 
 -- ascending, the numbers of the items that pass the test, and those of the others
 pub record IsSplit (since : List Accepted) (test : ℕ → Bool) (kept lost : List ℕ) : Type 0 where

@@ -19,9 +19,9 @@ ghost use Rattle.update_protocol.specs.Events.{Accept, Adopt, Commit, Execute_co
 ghost use Rattle.op_laws.specs.Laws.{IsCount};
 ghost use Rattle.update_protocol.specs.Laws.{Laws};
 ghost use Rattle.update_protocol.specs.Lists.{IsIn, Rising, put};
-ghost use Rattle.update_protocol.specs.Machine.{Accept as Accept_line, Done, Line, Opened, Recovered, Redone, Replies, Says, Serving, Stable, Stopped, Up, is_read, stands_after, stays_smooth};
+ghost use Rattle.update_protocol.specs.Machine.{Accept as Accept_line, Done, Down, Line, Log, Opened, Recovered, Redone, Replies, Says, Serving, Shared, Stable, Stopped, Up, is_read, stands_after, stays_smooth};
 ghost use Rattle.update_protocol.specs.Near.{Cause};
-ghost use Rattle.update_protocol.specs.States.{IsSplit, Spoken, gathered_state, number_at, numbers_at, state_of};
+ghost use Rattle.update_protocol.specs.States.{IsSplit, Spoken, gathered_state, listed, number_at, numbers_at, state_of};
 ghost use Rattle.update_protocol.specs.Parts.{IsSent, all_of, entries_of, numbers_of, passing};
 ghost use Rattle.update_protocol.specs.Progress.{Asking, Note, Turn, Turns, idle};
 ghost use Rattle.update_protocol.specs.Recovery.{Gathered, Redo, before_item, kept_items};
@@ -41,7 +41,7 @@ use tree_model::{
     the_step_is_decided_by_looks,
 };
 use tree_shares::{parts_are_of_targets, shares_tell};
-use tree_sound::histories_keep_trees_sound;
+use tree_sound::{histories_keep_trees_sound, parents_name_their_directories};
 use update_record::targets_are_those_of_the_parts;
 
 /// All that the protocol needs of single operations, over the trees of histories. The call does nothing: its contract
@@ -221,6 +221,11 @@ pub fn events_say_rows()
         → (t : ℕ) (others : List Line) → Says (state_of targets o w) (Up t (o.start t + length (w.disk t)) (numbers_at w.since (live (w.disk t) (w.kept_gone t)))) others (state_of targets (record o { standing = put o.standing t Opened }) w) }
     ensures new_image { (targets : ℕ) → IsCount targets → (h : History) (w : World) → Reached targets h w → (sent : ℕ → Request) → IsSent sent (h ++ entries_of w.since) → (o : Spoken)
         → (t : ℕ) → May targets w (Adopt t) → (others : List Line) → Says (state_of targets o w) (Up t (o.start t + length (w.torn t)) (numbers_at w.since (live (w.torn t) (w.torn_gone t)))) others (state_of targets (record o { standing = put o.standing t Opened }) (happens w (Adopt t))) }
+    ensures shared { (targets : ℕ) → IsCount targets → (h : History) (w : World) → Reached targets h w → (sent : ℕ → Request) → IsSent sent (h ++ entries_of w.since) → (o : Spoken)
+        → (t number k : ℕ) → IsIn k (pending w t) → (others : List Line) → Says (state_of targets o w) (Shared t number (number_at w.since k)) others (state_of targets o w) }
+    ensures log { (targets : ℕ) → IsCount targets → (h : History) (w : World) → Reached targets h w → (sent : ℕ → Request) → IsSent sent (h ++ entries_of w.since) → (o : Spoken)
+        → (t : ℕ) (indexes : List ℕ) → Rising indexes → length indexes ≡ length (live (w.done t) (w.gone t)) → (o.standing t ≡ Down → ⊥) → (others : List Line)
+        → Says (state_of targets o w) (Log t (listed o.epoch w.since indexes (live (w.done t) (w.gone t)))) others (state_of targets o w) }
 {
     operations_have_laws();
     targets_are_those_of_the_parts();
@@ -229,6 +234,9 @@ pub fn events_say_rows()
 /// What a recovery says in the plain machine, once what served is committed: what it redoes at a target, and what a
 /// target shows that stopped in it, before or after the redone records were committed there.
 pub fn recoveries_say_rows()
+    ensures gathered { (targets : ℕ) → IsCount targets → (h : History) (w : World) → Reached targets h w → (o : Spoken) → ((t n : ℕ) → IsIn n (w.done t) → IsIn n (w.disk t)) → state_of targets o w ≡ gathered_state targets o w.base w.since w.disk }
+    ensures stopped { (targets : ℕ) (o : Spoken) (base : History) (since : List Accepted) (disk : ℕ → List ℕ) (t : ℕ) (others : List Line) → Says (gathered_state targets o base since disk) (Stopped t) others
+        (gathered_state targets (record o { standing = stands_after others t o.standing; smooth = stays_smooth others o.smooth }) base since disk) }
     ensures redone { (targets : ℕ) → IsCount targets → (base : History) (since : List Accepted) (disk : ℕ → List ℕ) (mark : ℕ → ℕ) (gone : ℕ → List ℕ) (kept : ℕ → Bool)
         → Gathered targets base since disk mark gone kept → Follows targets base since → IsLegal targets (base ++ entries_of since) → (o : Spoken) (t : ℕ)
         → (extra : List ℕ) → Redo since disk mark gone t extra → (others : List Line)
@@ -242,6 +250,8 @@ pub fn recoveries_say_rows()
         → (extra : List ℕ) → Redo since disk mark gone t extra → (others : List Line)
         → Says (gathered_state targets o base since disk) (Up t (o.start t + length (disk t ++ extra)) (numbers_at since (live (disk t ++ extra) (gone t)))) others
         (gathered_state targets (record o { standing = put o.standing t Opened }) base since (put disk t (disk t ++ extra))) }
+    ensures renewed_image { (targets : ℕ) → IsCount targets → (h : History) → Story targets h → (e : Epoch targets h) → (sent : ℕ → Request) → IsSent sent (h ++ entries_of e.world.since) → (o : Spoken)
+        → (t : ℕ) (others : List Line) → Says (gathered_state targets o h e.world.since e.disks) (Up t (o.start t + length (e.disks t)) []) others (gathered_state targets (record o { standing = put o.standing t Opened }) h e.world.since e.disks) }
     ensures recovered { (targets : ℕ) → IsCount targets → (h : History) → Story targets h → (e : Epoch targets h) → (sent : ℕ → Request) → IsSent sent (h ++ entries_of e.world.since) → (o : Spoken)
         → (epoch : ℕ) → o.epoch < epoch → (o.smooth ≡ true → epoch ≡ suc o.epoch) → (kept lost : List ℕ) → IsSplit e.world.since e.kept kept lost → (s : Start) (others : List Line)
         → Says (gathered_state targets o h e.world.since e.disks) (Recovered epoch kept lost) others
@@ -290,5 +300,17 @@ pub fn a_refusal_can_wait_for_a_commit()
 {
     operations_have_laws();
     histories_keep_trees_sound();
+    shares_tell();
+}
+
+/// There is a run in which a rename is on three targets: the directory that it moves stands on one, its old parent and
+/// its new one on two others, and each of them executes it.
+pub fn a_rename_can_be_on_three_targets()
+    ensures renamed { (w : World) × Reached 3 [] w × (length w.since ≡ 3) × (is_on (at w.since 2) 0 ≡ true) × (is_on (at w.since 2) 1 ≡ true) × (is_on (at w.since 2) 2 ≡ true)
+        × IsIn 2 (w.done 0) × IsIn 2 (w.done 1) × IsIn 2 (w.done 2) }
+{
+    operations_have_laws();
+    histories_keep_trees_sound();
+    parents_name_their_directories();
     shares_tell();
 }

@@ -1,6 +1,10 @@
+use Rattle.std.proofs.Common.{refl}
+use Rattle.update_protocol.specs.Rows.{pending}
 use Rattle.update_protocol.proofs.Setting.{setting}
-use Rattle.update_protocol.proofs.Saying.{committed, executes, stopped, torn}
+use Rattle.update_protocol.proofs.Saying.{committed, executes, far, stopped, torn}
 use Rattle.update_protocol.proofs.SayingAccept.{accepts}
+use Rattle.update_protocol.proofs.Naming.{number_in}
+use Rattle.update_protocol.proofs.SayingLog.{log_says}
 use Rattle.update_protocol.proofs.SayingUp.{kept_image, new_image}
 use Rattle.update_protocol.proofs.events_say_rows.Goals as goal
 
@@ -13,4 +17,6 @@ returns c = record {
   torn = λ targets count h w r sent known o t others. torn (setting targets (c.operations_have_laws.ensures.laws targets count)) h w r sent known o t others;
   kept_image = λ targets count h w r sent known o t others. kept_image (setting targets (c.operations_have_laws.ensures.laws targets count)) h w r sent known o c.targets_are_those_of_the_parts.ensures t others;
   new_image = λ targets count h w r sent known o t may others. new_image (setting targets (c.operations_have_laws.ensures.laws targets count)) h w r sent known o c.targets_are_those_of_the_parts.ensures t others may;
+  shared = λ targets count h w r sent known o t number k pends others. (number_in w.since (far (setting targets (c.operations_have_laws.ensures.laws targets count)) h w r sent known) (pending w t) k pends, refl);
+  log = λ targets count h w r sent known o t indexes rises many stands others. log_says (setting targets (c.operations_have_laws.ensures.laws targets count)) h w r sent known o c.targets_are_those_of_the_parts.ensures t indexes rises many stands others;
 }

@@ -18,15 +18,15 @@ use Rattle.dne_cli.proofs.Touching.{touches_refl}
 use Rattle.dne_cli.proofs.Taken.{IsTurn, skip_turn, fuse_turn, tree_turn, send_turn, cluster_turn, settle_turn, commit_turn, end_turn, state_turn, reads_again, or_first, or_none, or_true, true_false, never_clean, some_here, down_serving, opened_serving, opened_down, serving_down, not_true, no_down_in}
 
 -- what a target keeps that stopped
-holds_stopped : (s : State) (n : ℕ) (h : Held) (d : Shown) → HoldsSame s n h → IsSome s.asked.cluster → s.asked.ended ≡ false → h.formatted ≡ true → d.honest ≡ h.disk.honest → (IsTrue s.honest → Stored Down s.last s.history (n + 1) d)
-    → HoldsSame (record s { standing = Down; formatted = is_formatted s; pend = [] }) (n + 1) (stopped true d)
-holds_stopped s n h d a some going formatted honest stored = record {
+holds_stopped : (s : State) (h : Held) (d : Shown) → HoldsSame s h → IsSome s.asked.cluster → s.asked.ended ≡ false → h.formatted ≡ true → d.honest ≡ h.disk.honest → (IsTrue s.honest → Stored Down s.last s.history d)
+    → HoldsSame (record s { standing = Down; formatted = is_formatted s; pend = [] }) (stopped true d)
+holds_stopped s h d a some going formatted honest stored = record {
   standing = refl;
   formatted = or_none (is_formatted s) ∙ a.formatted ∙ formatted;
   up = λ _. refl;
   ledger = tt;
   counted = λ e. absurd (down_serving e);
-  clean = λ e. absurd (never_clean s n h a going e);
+  clean = λ e. absurd (never_clean s h a going e);
   honest = a.honest ∙ sym honest;
   new = λ e. absurd (some_here s.asked.cluster some e);
   fresh = λ e. absurd (true_false e);
@@ -35,7 +35,7 @@ holds_stopped s n h d a some going formatted honest stored = record {
 
 -- a target that is up is stopped
 stop_turn : (t : ℕ) (s : State) (said : List Line) (n : ℕ) (k : Kept) → Agrees s said n k → IsTaken s.asked (Order (commands.Crash t)) → (s.standing ≡ Down → ⊥) → CrashLines s.standing t (lines.Down t ∷ [])
-    → (IsTrue s.honest → Stored Down s.last s.history (n + 1) k.target.disk) → IsTurn s said n k (Order (commands.Crash t)) (record k { target = stopped true k.target.disk }) (lines.Down t ∷ [])
+    → (IsTrue s.honest → Stored Down s.last s.history k.target.disk) → IsTurn s said n k (Order (commands.Crash t)) (record k { target = stopped true k.target.disk }) (lines.Down t ∷ [])
 stop_turn t s said n k a taken up group stored =
     let e : Entry = Order (commands.Crash t) in
     let line : List Line = lines.Down t ∷ [] in
@@ -47,7 +47,7 @@ stop_turn t s said n k a taken up group stored =
       agrees = record {
         asks = asks_on s.asked s.history said line k (stopped true k.target.disk) a.asks;
         few = (let f = a.few in omega (arith, f));
-        holds = holds_stopped s n k.target k.target.disk a.holds taken.1.0 taken.1.1 (a.holds.up up) refl stored;
+        holds = holds_stopped s k.target k.target.disk a.holds taken.1.0 taken.1.1 (a.holds.up up) refl stored;
       };
       disk = record { touches = touches_refl k.target.disk; cause = λ f. absurd (true_false f.0); does = refl };
       made = sym (or_none k.target.formatted ∙ a.holds.up up);
@@ -61,14 +61,14 @@ crash_turn Serving t s said n k target ls is a taken c =
     let up : s.standing ≡ Down → ⊥ = λ x. serving_down (sym here ∙ x) in
     subst (λ x. IsTurn s said n k e (record k { target = x }) ls) (sym c.0) (subst (λ x. IsTurn s said n k e (record k { target = stopped true k.target.disk }) x) (sym c.1)
     (stop_turn t s said n k a taken up (subst (λ x. CrashLines x t (lines.Down t ∷ [])) (sym here) refl)
-    (λ honest. stops_at s.last s.history n k.target.disk (subst (λ x. Stored x s.last s.history n k.target.disk) here (a.holds.stored honest (a.holds.up up))))))
+    (λ honest. stops_at s.last s.history k.target.disk (subst (λ x. Stored x s.last s.history k.target.disk) here (a.holds.stored honest (a.holds.up up))))))
 crash_turn Opened t s said n k target ls is a taken c =
     let e : Entry = Order (commands.Crash t) in
     let here : s.standing ≡ Opened = a.holds.standing ∙ is in
     let up : s.standing ≡ Down → ⊥ = λ x. opened_down (sym here ∙ x) in
     subst (λ x. IsTurn s said n k e (record k { target = x }) ls) (sym c.0) (subst (λ x. IsTurn s said n k e (record k { target = stopped true k.target.disk }) x) (sym c.1)
     (stop_turn t s said n k a taken up (subst (λ x. CrashLines x t (lines.Down t ∷ [])) (sym here) refl)
-    (λ honest. stops_at s.last s.history n k.target.disk (subst (λ x. Stored x s.last s.history n k.target.disk) here (a.holds.stored honest (a.holds.up up))))))
+    (λ honest. stops_at s.last s.history k.target.disk (subst (λ x. Stored x s.last s.history k.target.disk) here (a.holds.stored honest (a.holds.up up))))))
 crash_turn Down t s said n k target ls is a taken c =
     let e : Entry = Order (commands.Crash t) in
     let told : ls ≡ lines.State t (standing_of k.target) ∷ [] = c.1 ∙ ap (λ x. lines.State t x ∷ []) (sym is) in
@@ -81,7 +81,7 @@ crash_turn Down t s said n k target ls is a taken c =
 -- a target that is down and stays down
 down_turn : (l : Line) (t : ℕ) (s : State) (said : List Line) (n : ℕ) (k : Kept) (d : Shown) → Agrees s said n k → IsTaken s.asked (Order (commands.Restart t)) → s.standing ≡ Down → k.target.formatted ≡ true → Touches k.target.disk d
     → RestartLines Down t (l ∷ []) → SaysAll (begun s (Order (commands.Restart t))) (l ∷ []) (record (begun s (Order (commands.Restart t))) { standing = Down; pend = [] })
-    → ((x : ℕ) → l ≡ lines.Down x → Rose k.target.disk.faults d.faults) → RestartsDisk true l k.target.disk d → (IsTrue s.honest → Stored Down s.last s.history (n + 1) d)
+    → ((x : ℕ) → l ≡ lines.Down x → Rose k.target.disk.faults d.faults) → RestartsDisk true l k.target.disk d → (IsTrue s.honest → Stored Down s.last s.history d)
     → IsTurn s said n k (Order (commands.Restart t)) (record k { target = stopped true d }) (l ∷ [])
 down_turn l t s said n k d a taken here formatted touches group says rose does stored =
     let e : Entry = Order (commands.Restart t) in
@@ -92,7 +92,7 @@ down_turn l t s said n k d a taken here formatted touches group says rose does s
       agrees = record {
         asks = asks_on s.asked s.history said (l ∷ []) k (stopped true d) a.asks;
         few = (let f = a.few in omega (arith, f));
-        holds = holds_stopped s n k.target d a.holds taken.1.0 taken.1.1 formatted touches.stays.honest stored;
+        holds = holds_stopped s k.target d a.holds taken.1.0 taken.1.1 formatted touches.stays.honest stored;
       };
       disk = record { touches = touches; cause = λ f. one f.1.0 f.1.1; does = (subst (λ b. RestartsDisk b l k.target.disk d) (sym formatted) does, tt) };
       made = sym (or_first k.target.formatted (says_up (l ∷ [])) formatted);
@@ -121,7 +121,7 @@ damaged_turn l t s said n k d a taken here formatted touches group says other do
           up = λ _. refl;
           ledger = tt;
           counted = λ x. absurd (down_serving (sym here ∙ x));
-          clean = λ x. absurd (never_clean s n k.target a.holds taken.1.1 x);
+          clean = λ x. absurd (never_clean s k.target a.holds taken.1.1 x);
           honest = a.holds.honest ∙ sym touches.stays.honest;
           new = λ x. absurd (some_here s.asked.cluster taken.1.0 x);
           fresh = λ x. absurd (true_false x);
@@ -139,7 +139,7 @@ start_turn t s said n k target ls a taken here formatted few (inl (d, transno, n
     let e : Entry = Order (commands.Restart t) in
     let f = a.few in
     let again : ReadsAgain s.history = reads_again s.asked s.history said k a.asks (omega (arith, f, few)) in
-    let at = λ (honest : IsTrue s.honest). opens_at s.last s.history n k.target.disk d transno numbers (subst (λ x. Stored x s.last s.history n k.target.disk) here (a.holds.stored honest formatted)) r (subst IsTrue a.holds.honest honest) again in
+    let at = λ (honest : IsTrue s.honest). opens_at s.last s.history k.target.disk d transno numbers (subst (λ x. Stored x s.last s.history k.target.disk) here (a.holds.stored honest formatted)) r (subst IsTrue a.holds.honest honest) again in
     let line : List Line = lines.Up t transno numbers ∷ [] in
     let u : State = record (begun s e) { standing = Opened; formatted = true; last = transno } in
     subst (λ x. IsTurn s said n k e (record k { target = x }) ls) (sym made) (subst (λ x. IsTurn s said n k e (record k { target = opened_on d }) x) (sym one)
@@ -160,7 +160,7 @@ start_turn t s said n k target ls a taken here formatted few (inl (d, transno, n
           up = λ _. refl;
           ledger = tt;
           counted = λ x. absurd (opened_serving x);
-          clean = λ x. absurd (never_clean s n k.target a.holds taken.1.1 x);
+          clean = λ x. absurd (never_clean s k.target a.holds taken.1.1 x);
           honest = a.holds.honest ∙ sym r.touches.stays.honest;
           new = λ x. absurd (some_here s.asked.cluster taken.1.0 x);
           fresh = λ x. absurd (true_false x);
@@ -179,12 +179,12 @@ start_turn t s said n k target ls a taken here formatted few (inr (inl (d, u, ma
     let v : State = record (begun s e) { standing = Down; pend = [] } in
     subst (λ x. IsTurn s said n k e (record k { target = x }) ls) (sym made) (subst (λ x. IsTurn s said n k e (record k { target = stopped true d }) x) (sym one)
     (down_turn (lines.Down t) t s said n k d a taken here formatted u.faulted.touches (inr (inl refl)) (v, refl, refl) (λ x y. u.faulted.rose) u.after_stop
-    (λ honest. unread_at s.last s.history n k.target.disk d (subst (λ x. Stored x s.last s.history n k.target.disk) here (a.holds.stored honest formatted)) (u.images (subst IsTrue a.holds.honest honest)))))
+    (λ honest. unread_at s.last s.history k.target.disk d (subst (λ x. Stored x s.last s.history k.target.disk) here (a.holds.stored honest formatted)) (u.images (subst IsTrue a.holds.honest honest)))))
 start_turn t s said n k target ls a taken here formatted few (inr (inr (inl (d, gates, g, made, one)))) =
     let e : Entry = Order (commands.Restart t) in
     let f = a.few in
     let again : ReadsAgain s.history = reads_again s.asked s.history said k a.asks (omega (arith, f, few)) in
-    let never : IsTrue s.honest → ⊥ = λ honest. never_damaged (HoldsNothing gates) s.last s.history n k.target.disk d (subst (λ x. Stored x s.last s.history n k.target.disk) here (a.holds.stored honest formatted)) g again (subst IsTrue a.holds.honest honest) in
+    let never : IsTrue s.honest → ⊥ = λ honest. never_damaged (HoldsNothing gates) s.last s.history k.target.disk d (subst (λ x. Stored x s.last s.history k.target.disk) here (a.holds.stored honest formatted)) g again (subst IsTrue a.holds.honest honest) in
     let dishonest = not_true s.honest never in
     subst (λ x. IsTurn s said n k e (record k { target = x }) ls) (sym made) (subst (λ x. IsTurn s said n k e (record k { target = stopped true d }) x) (sym one)
     (damaged_turn (lines.DamagedGates t gates) t s said n k d a taken here formatted g.touches (inr (inr (inl (gates, refl)))) (begun s e, (dishonest, refl), refl) (λ x y. cc) g.after_stop never))
@@ -192,7 +192,7 @@ start_turn t s said n k target ls a taken here formatted few (inr (inr (inr (d, 
     let e : Entry = Order (commands.Restart t) in
     let f = a.few in
     let again : ReadsAgain s.history = reads_again s.asked s.history said k a.asks (omega (arith, f, few)) in
-    let never : IsTrue s.honest → ⊥ = λ honest. never_damaged (HoldsBadImage place) s.last s.history n k.target.disk d (subst (λ x. Stored x s.last s.history n k.target.disk) here (a.holds.stored honest formatted)) g again (subst IsTrue a.holds.honest honest) in
+    let never : IsTrue s.honest → ⊥ = λ honest. never_damaged (HoldsBadImage place) s.last s.history k.target.disk d (subst (λ x. Stored x s.last s.history k.target.disk) here (a.holds.stored honest formatted)) g again (subst IsTrue a.holds.honest honest) in
     let dishonest = not_true s.honest never in
     subst (λ x. IsTurn s said n k e (record k { target = x }) ls) (sym made) (subst (λ x. IsTurn s said n k e (record k { target = stopped true d }) x) (sym one)
     (damaged_turn (lines.DamagedImage t place) t s said n k d a taken here formatted g.touches (inr (inr (inr (place, refl)))) (begun s e, (dishonest, refl), refl) (λ x y. cc) g.after_stop never))
@@ -223,11 +223,11 @@ reformat_turn t s said n k target ls a taken here raw (inl (d, f, made, one)) =
           up = λ _. refl;
           ledger = tt;
           counted = λ x. absurd (opened_serving x);
-          clean = λ x. absurd (never_clean s n k.target a.holds taken.1.1 x);
+          clean = λ x. absurd (never_clean s k.target a.holds taken.1.1 x);
           honest = a.holds.honest ∙ sym f.formatted.touches.stays.honest;
           new = λ x. absurd (some_here s.asked.cluster taken.1.0 x);
           fresh = λ x. absurd (true_false x);
-          stored = λ honest _. formats_at 0 s.history (n + 1) k.target.disk d f.formatted (subst IsTrue a.holds.honest honest) none.0 refl;
+          stored = λ honest _. formats_at 0 s.history k.target.disk d f.formatted (subst IsTrue a.holds.honest honest) none.0 refl;
         };
       };
       disk = record {
@@ -255,7 +255,7 @@ reformat_turn t s said n k target ls a taken here raw (inr (d, f, made, one)) =
           up = λ x. absurd (x refl);
           ledger = tt;
           counted = λ x. absurd (down_serving x);
-          clean = λ x. absurd (never_clean s n k.target a.holds taken.1.1 x);
+          clean = λ x. absurd (never_clean s k.target a.holds taken.1.1 x);
           honest = a.holds.honest ∙ sym f.faulted.touches.stays.honest;
           new = λ x. absurd (some_here s.asked.cluster taken.1.0 x);
           fresh = λ _. a.holds.fresh raw;
@@ -297,9 +297,9 @@ order_turn (Order commands.Settle) s said n k new ls a taken few d =
 order_turn (Order commands.Tree) s said n k new ls a taken few d =
     subst (λ x. IsTurn s said n k (Order commands.Tree) x ls) (sym d.0) (subst (λ x. IsTurn s said n k (Order commands.Tree) k x) (sym d.1) (tree_turn k.target.ledger s said n k refl a taken))
 order_turn (Order commands.End) s said n k new ls a taken few d =
-    subst (λ x. IsTurn s said n k (Order commands.End) x ls) (sym d.2) (end_turn k.target.ledger s said n k d.0 ls refl a taken few d.1)
+    subst (λ x. IsTurn s said n k (Order commands.End) x ls) (sym d.2) (end_turn k.target.ledger s said n k d.0 ls refl a taken d.1)
 order_turn (Order (commands.Commit t)) s said n k new ls a taken few d =
-    subst (λ x. IsTurn s said n k (Order (commands.Commit t)) x ls) (sym d.2) (commit_turn k.target.ledger t s said n k d.0 ls refl a taken few d.1)
+    subst (λ x. IsTurn s said n k (Order (commands.Commit t)) x ls) (sym d.2) (commit_turn k.target.ledger t s said n k d.0 ls refl a taken d.1)
 order_turn (Order (commands.Crash t)) s said n k new ls a taken few d =
     subst (λ x. IsTurn s said n k (Order (commands.Crash t)) x ls) (sym d.2) (crash_turn (standing_of k.target) t s said n k d.0 ls refl a taken d.1)
 order_turn (Order (commands.Restart t)) s said n k new ls a taken few d =

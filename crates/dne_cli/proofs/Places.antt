@@ -37,17 +37,17 @@ lines_in-push [] g = refl
 lines_in-push (h ∷ gs) g = ap (λ l. line_of h.entry ∷ l) (lines_in-push gs g)
 
 -- a target that keeps the machine's state has a disk that keeps the run
-keeps_run : (s : State) (n : ℕ) (h : Held) → HoldsSame s n h → s.honest ≡ h.disk.honest → KeepsRun s h.disk
-keeps_run s n h a same = record {
+keeps_run : (s : State) (h : Held) → HoldsSame s h → s.honest ≡ h.disk.honest → KeepsRun s h.disk
+keeps_run s h a same = record {
   bears = λ honest made image here.
-      let b = bears_all s.standing s.last s.history n h.disk (a.stored (subst IsTrue (sym same) honest) (sym a.formatted ∙ made)) image here in
+      let b = bears_all s.standing s.last s.history h.disk (a.stored (subst IsTrue (sym same) honest) (sym a.formatted ∙ made)) image here in
       record { count = b.0; fits = record { stable = b.1; accepted = b.2; front = refl }; exact = b.3; holds = b.4 };
   clean = λ honest clean image here.
       let c = a.clean clean in
       let formatted : h.formatted ≡ true = a.up (λ e. absurd (serving_down (sym c.1 ∙ e))) in
       let pending = ap length c.2 in
       let counted = a.counted c.1 in
-      let held = holds_all s.last s.history n h.disk (subst (λ x. Stored x s.last s.history n h.disk) c.1 (a.stored (subst IsTrue (sym same) honest) formatted)) (omega (arith, counted, pending)) image here in
+      let held = holds_all s.last s.history h.disk (subst (λ x. Stored x s.last s.history h.disk) c.1 (a.stored (subst IsTrue (sym same) honest) formatted)) (omega (arith, counted, pending)) image here in
       (s.history, held, refl);
 }
   where
@@ -77,7 +77,7 @@ reach_next first lines text k new line more few r takes clean =
         written = ap (λ t. t ++ more) p.written ∙ ap (λ t. transcript gs ++ t) takes.5 ∙ sym (flat_map-append line_text (lines_of gs) ls) ∙ sym (ap texts (lines-push gs g));
         moves = moves_more gs false first k.target.disk new.target.disk g p.moves (subst (λ b. DiskTurn b g k.target.disk new.target.disk) (sym r.made) turn.disk);
         honest = turn.disk.touches.stays.honest ∙ p.honest;
-        kept = keeps_run turn.state (length lines + 1) new.target turn.agrees.holds same;
+        kept = keeps_run turn.state new.target turn.agrees.holds same;
       };
       made = made_more gs false g ∙ ap (λ b. made_by b g) r.made ∙ sym turn.made;
       agrees = subst (λ n. Agrees turn.state (lines_of (gs ++ g ∷ [])) n new) (sym count) (subst (λ l. Agrees turn.state l (length lines + 1) new) (sym (lines-push gs g)) turn.agrees);

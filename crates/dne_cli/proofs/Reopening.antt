@@ -4,14 +4,16 @@ use Rattle.std.proofs.Common.{◌≡◌, ◌≤◌, ℕ, Bool, true, false, List
 use Rattle.outside.specs.Causes.{Rose, HasCause}
 use Rattle.outside.specs.Disk.{Shown, Stays, IsImage, Cycles, settles}
 use Rattle.outside.proofs.Parts.{image_only}
-use Rattle.target_disk.specs.Slots.{Saved, opened}
-use Rattle.target_disk.specs.Look.{gates_of}
-use Rattle.target_disk.specs.Open.{Opens, StaysSettled}
+use Rattle.target_disk.specs.Tables.{Saved, opened}
+use Rattle.target_disk.specs.Open.{Opens, Reopens, StaysSettled}
 use Rattle.target_disk.specs.Reads.{Keeps}
 use Rattle.target_disk.specs.Store.{IsSettled}
 use Rattle.dne_cli.specs.Image.{numbers_in}
-use Rattle.dne_cli.specs.Disks.{Cycled, Faulted, Formatted, HoldsBadImage, HoldsNothing, HoldsNumbers, StaysOff, Touches}
-use Rattle.dne_cli.specs.Kept.{Damaged, Reformatted, Reopened, Unformatted, Unread}
+use Rattle.dne_cli.specs.Disks.{Cycled, Faulted, Formatted, HoldsBadImage, HoldsNothing, HoldsNumbers, StaysOff, Touches, gates_of}
+use Rattle.dne_cli.specs.Kept.{Damaged, OpensAsBefore, Reformatted, Reopened, Unformatted, Unread}
+use Rattle.dne_cli.specs.Restart.{FailsToMake, FailsToRemake}
+use Rattle.dne_cli.specs.declared.target.MakeFault.{MakeFault}
+use Rattle.dne_cli.specs.declared.target.MakeFault.TheVariants as make_fault
 use Rattle.dne_cli.proofs.Reading.{at_no_error}
 use Rattle.dne_cli.proofs.Touching.{touches_trans}
 
@@ -42,7 +44,7 @@ pub unread_off : (old new : Shown) → StaysOff old new → Unread old new
 unread_off old new off = record {
   faulted = off.faulted;
   after_stop = inl off;
-  images = λ honest image here. subst (λ s. IsImage s image) (off.settled honest) here;
+  images = λ honest image here. (image, subst (λ s. IsImage s image) (off.settled honest) here, refl);
 }
 
 pub unformatted_off : (old new : Shown) → StaysOff old new → Unformatted old new
@@ -63,28 +65,34 @@ unformatted_after old mid new cycle f =
       after_stop = inr (mid, cycle, f);
     }
 
-module _ (old mid new : Shown) (cycle : Cycled old mid) (keeps : Keeps mid new) where
+-- a disk that was read alone opens as before
+pub keeps_reopens : (old new : Shown) → Keeps old new → Reopens old new
+keeps_reopens old new keeps = record {
+  stays = keeps.stays;
+  later = keeps.later;
+  same = λ honest clean image here. ap opened (image_only old.content image (subst (λ s. IsImage s image) (keeps.settled honest ∙ clean) here));
+}
+
+module _ (old mid new : Shown) (cycle : Cycled old mid) (reopens : Reopens mid new) where
   honest_still : IsTrue old.honest → IsTrue mid.honest
   honest_still honest = subst IsTrue (sym cycle.touches.stays.honest) honest
 
   pub touched : Touches old new
-  touched = touches_trans old mid new cycle.touches (record { stays = keeps.stays; later = keeps.later })
+  touched = touches_trans old mid new cycle.touches (record { stays = reopens.stays; later = reopens.later })
 
   pub rose : Rose mid.faults new.faults → Rose old.faults new.faults
   rose up = let later = cycle.touches.later in omega (arith, later, up)
 
-  pub no_others : IsTrue old.honest → (image : List ℕ) → IsImage new.settled image → IsImage old.settled image
-  no_others honest image here =
-      let same : new.settled ≡ settles mid.content = keeps.settled (honest_still honest) ∙ cycle.settled honest in
-      subst (IsImage old.settled) (sym (image_only mid.content image (subst (λ s. IsImage s image) same here))) (cycle.image honest)
+  pub no_others : IsTrue old.honest → OpensAsBefore old new
+  no_others honest image here = (mid.content, cycle.image honest, reopens.same (honest_still honest) (cycle.settled honest) image here)
 
   pub unread : Rose mid.faults new.faults → Unread old new
-  unread up = record { faulted = record { touches = touched; rose = rose up }; after_stop = inr (mid, cycle, keeps, up); images = no_others }
+  unread up = record { faulted = record { touches = touched; rose = rose up }; after_stop = inr (mid, cycle, reopens, up); images = no_others }
 
   pub damaged_gates : (gates : ℕ) → (IsTrue mid.honest → IsTrue mid.tells) → (IsTrue mid.tells → (opened mid.content ≡ None) × (gates ≡ gates_of mid.content)) → Damaged (HoldsNothing gates) old new
   damaged_gates gates tells none = record {
     touches = touched;
-    after_stop = (mid, cycle, keeps, none);
+    after_stop = (mid, cycle, reopens, none);
     cause = λ honest. (mid.content, cycle.image honest, inl ((none (tells (honest_still honest))).0));
     images = no_others;
   }
@@ -92,7 +100,7 @@ module _ (old mid new : Shown) (cycle : Cycled old mid) (keeps : Keeps mid new) 
   pub damaged_image : (image : List ℕ) (place : ℕ) → (IsTrue mid.honest → IsTrue mid.tells) → (IsTrue mid.tells → (s : Saved) × (opened mid.content ≡ Some s) × (s.bytes ≡ image)) → numbers_in image ≡ Err place → Damaged (HoldsBadImage place) old new
   damaged_image image place tells opens bad = record {
     touches = touched;
-    after_stop = (mid, cycle, keeps, λ t. let found = opens t in (found.0, found.1, ap numbers_in found.2 ∙ bad));
+    after_stop = (mid, cycle, reopens, λ t. let found = opens t in (found.0, found.1, ap numbers_in found.2 ∙ bad));
     cause = λ honest. let found = opens (tells (honest_still honest)) in (mid.content, cycle.image honest, inr (found.0, place, found.1, ap numbers_in found.2 ∙ bad));
     images = no_others;
   }
@@ -100,7 +108,7 @@ module _ (old mid new : Shown) (cycle : Cycled old mid) (keeps : Keeps mid new) 
   pub reopened : (image numbers : List ℕ) → (IsTrue mid.honest → IsTrue mid.tells) → Opens mid new image → StaysSettled mid new → numbers_in image ≡ Ok numbers → Reopened old new (length numbers) numbers
   reopened image numbers tells o settled read = record {
     touches = touched;
-    after_stop = (mid, cycle, keeps, λ t. let found = o.opens t in (found.0, found.1, ap numbers_in found.2 ∙ read, refl));
+    after_stop = (mid, cycle, reopens, λ t. let found = o.opens t in (found.0, found.1, ap numbers_in found.2 ∙ read, refl));
     counted = refl;
     read = λ honest.
         let here = honest_still honest in
@@ -109,6 +117,11 @@ module _ (old mid new : Shown) (cycle : Cycled old mid) (keeps : Keeps mid new) 
   }
 
 -- ANSWERS
+
+-- each answer other than Ok of a formatting after a stop
+pub fails_after : {D : Type 0} (shown : D → Shown) (old mid : Shown) (e : MakeFault D) → Cycled old mid → FailsToMake shown mid e → FailsToRemake shown old e
+fails_after shown old mid (make_fault.Disk disk) cycle f = unformatted_after old mid (shown disk) cycle f
+fails_after shown old mid (make_fault.Memory disk) cycle t = touches_trans old mid (shown disk) cycle.touches t
 
 pub if_ok_map : {T E : Type 0} (result : Result T E) (P Q : T → Type 0) → ((x : T) → P x → Q x) → IfOk result P → IfOk result Q
 if_ok_map (Ok x) P Q f h = f x h

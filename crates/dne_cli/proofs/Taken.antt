@@ -23,7 +23,7 @@ use Rattle.dne_cli.proofs.Lists.{all_map, all_among}
 use Rattle.dne_cli.proofs.Touching.{touches_refl}
 use Rattle.dne_cli.proofs.Asks.{asks_on, asks_end, asks_cluster, asks_send, asks_settle, all_answered, one_target}
 use Rattle.dne_cli.proofs.Settling.{IsReady, Serves, serve_all, turned_says, turned_lines, turned_answers}
-use Rattle.dne_cli.proofs.Storing.{ReadsAgain, commits_at, formats_at, grows_at, image_is, stored_later, torn_at}
+use Rattle.dne_cli.proofs.Storing.{ReadsAgain, commits_at, formats_at, grows_at, image_is, torn_at}
 use Rattle.dne_cli.proofs.Images.{Fits, name_of, numbers_again}
 
 -- a turn, what it owes, what the session then keeps, and what it does to the disk
@@ -68,8 +68,8 @@ pub some_here : (c : Option ℕ) → IsSome c → c ≡ None → ⊥
 some_here None some e = cc
 some_here (Some n) some e = cc
 
-pub never_clean : (s : State) (n : ℕ) (h : Held) → HoldsSame s n h → s.asked.ended ≡ false → s.clean ≡ true → ⊥
-never_clean s n h a going clean = false_true (sym going ∙ (a.clean clean).0)
+pub never_clean : (s : State) (h : Held) → HoldsSame s h → s.asked.ended ≡ false → s.clean ≡ true → ⊥
+never_clean s h a going clean = false_true (sym going ∙ (a.clean clean).0)
   where
     false_true : false ≡ true → ⊥
     false_true e = cc
@@ -126,8 +126,8 @@ reads_again a h said k s few = λ n most.
 -- EACH LINE
 
 -- what a target keeps, where requests alone were asked for
-holds_sent : (s : State) (n : ℕ) (h : Held) (sent : List Request) → HoldsSame s n h → HoldsSame (record s { asked = record s.asked { sent = sent }; formatted = is_formatted s }) (n + 1) h
-holds_sent s n h sent a = record {
+holds_sent : (s : State) (h : Held) (sent : List Request) → HoldsSame s h → HoldsSame (record s { asked = record s.asked { sent = sent }; formatted = is_formatted s }) h
+holds_sent s h sent a = record {
   standing = a.standing;
   formatted = or_again s.formatted (serves s.standing) ∙ a.formatted;
   up = a.up;
@@ -137,7 +137,7 @@ holds_sent s n h sent a = record {
   honest = a.honest;
   new = a.new;
   fresh = a.fresh;
-  stored = λ honest f. stored_later s.standing s.last s.history n h.disk (a.stored honest f);
+  stored = a.stored;
 }
 
 pub skip_turn : (line : List ℕ) (s : State) (said : List Line) (n : ℕ) (k : Kept) → Agrees s said n k → IsTaken s.asked (Skip line) → IsTurn s said n k (Skip line) k []
@@ -145,7 +145,7 @@ skip_turn line s said n k a taken = record {
   state = begun s (Skip line);
   turn = (taken, refl, refl);
   served = λ e. absurd (true_false (sym e));
-  agrees = record { asks = asks_on s.asked s.history said [] k k.target a.asks; few = (let f = a.few in omega (arith, f)); holds = holds_sent s n k.target s.asked.sent a.holds };
+  agrees = record { asks = asks_on s.asked s.history said [] k k.target a.asks; few = (let f = a.few in omega (arith, f)); holds = holds_sent s k.target s.asked.sent a.holds };
   disk = record { touches = touches_refl k.target.disk; cause = λ f. absurd f.1.1; does = refl };
   made = sym (or_none k.target.formatted);
 }
@@ -155,7 +155,7 @@ fuse_turn t after choice s said n k a taken = record {
   state = begun s (Order (commands.Fuse t after choice));
   turn = (taken, refl, refl);
   served = λ e. absurd (true_false (sym e));
-  agrees = record { asks = asks_on s.asked s.history said [] k k.target a.asks; few = (let f = a.few in omega (arith, f)); holds = holds_sent s n k.target s.asked.sent a.holds };
+  agrees = record { asks = asks_on s.asked s.history said [] k k.target a.asks; few = (let f = a.few in omega (arith, f)); holds = holds_sent s k.target s.asked.sent a.holds };
   disk = record { touches = touches_refl k.target.disk; cause = λ f. absurd f.1.1; does = refl };
   made = sym (or_none k.target.formatted);
 }
@@ -173,7 +173,7 @@ tree_turn None s said n k is a taken =
       state = t;
       turn = (taken, tree_none s.standing stopped, (t, (stopped, refl), refl));
       served = λ e. absurd (true_false (sym e));
-      agrees = record { asks = asks_on s.asked s.history said (lines.TreeState 0 ∷ []) k k.target a.asks; few = (let f = a.few in omega (arith, f)); holds = holds_sent s n k.target s.asked.sent a.holds };
+      agrees = record { asks = asks_on s.asked s.history said (lines.TreeState 0 ∷ []) k k.target a.asks; few = (let f = a.few in omega (arith, f)); holds = holds_sent s k.target s.asked.sent a.holds };
       disk = record { touches = touches_refl k.target.disk; cause = λ f. absurd (other f.1.0 f.1.1); does = refl };
       made = sym (or_none k.target.formatted);
     }
@@ -189,7 +189,7 @@ tree_turn (Some l) s said n k is a taken =
       state = t;
       turn = (taken, subst (λ x. TreeLines x (lines.Tree l.tree ∷ [])) (sym serving) (l.tree, refl), (t, (m.tree, refl), refl));
       served = λ e. absurd (true_false (sym e));
-      agrees = record { asks = asks_on s.asked s.history said (lines.Tree l.tree ∷ []) k k.target a.asks; few = (let f = a.few in omega (arith, f)); holds = holds_sent s n k.target s.asked.sent a.holds };
+      agrees = record { asks = asks_on s.asked s.history said (lines.Tree l.tree ∷ []) k k.target a.asks; few = (let f = a.few in omega (arith, f)); holds = holds_sent s k.target s.asked.sent a.holds };
       disk = record { touches = touches_refl k.target.disk; cause = λ f. absurd (other f.1.0 f.1.1); does = refl };
       made = sym (or_none k.target.formatted);
     }
@@ -207,7 +207,7 @@ send_turn r s said n k a taken = record {
   agrees = record {
     asks = asks_send s.asked s.history said k r a.asks taken.0 taken.2 taken.1.0.0 taken.1.1;
     few = (let f = a.few in let b = length-append k.waiting (r ∷ []) in omega (arith, f, b));
-    holds = holds_sent s n k.target (s.asked.sent ++ r ∷ []) a.holds;
+    holds = holds_sent s k.target (s.asked.sent ++ r ∷ []) a.holds;
   };
   disk = record { touches = touches_refl k.target.disk; cause = λ f. absurd f.1.1; does = refl };
   made = sym (or_none k.target.formatted);
@@ -245,7 +245,7 @@ cluster_turn m s said n k target ls a taken (inl (d, formatted, is, none)) =
           honest = a.holds.honest ∙ sym formatted.touches.stays.honest;
           new = λ e. absurd (some_none m e);
           fresh = λ e. absurd (true_false e);
-          stored = λ honest _. formats_at s.last s.history (n + 1) k.target.disk d formatted (subst IsTrue a.holds.honest honest) new.0 new.2;
+          stored = λ honest _. formats_at s.last s.history k.target.disk d formatted (subst IsTrue a.holds.honest honest) new.0 new.2;
         };
       };
       disk = record { touches = formatted.touches; cause = λ f. absurd f.1.1; does = formatted };
@@ -302,7 +302,7 @@ away_turn s said n k is a taken =
       agrees = record {
         asks = asks_settle s.asked s.history s.history said (turned_away k.waiting) k k.target a.asks answers a.asks.accepted;
         few = (let f = a.few in omega (arith, f));
-        holds = holds_sent s n k.target s.asked.sent a.holds;
+        holds = holds_sent s k.target s.asked.sent a.holds;
       };
       disk = record { touches = touches_refl k.target.disk; cause = λ f. absurd (no_down (turned_away k.waiting) f.1.0 (turned_lines k.waiting) f.1.1); does = refl };
       made = sym (or_none k.target.formatted);
@@ -342,12 +342,12 @@ serve_turn l s said n k is a taken =
           up = a.holds.up;
           ledger = v.matches;
           counted = λ _. v.counted;
-          clean = λ c. absurd (never_clean s n k.target a.holds taken.1.1 c);
+          clean = λ c. absurd (never_clean s k.target a.holds taken.1.1 c);
           honest = a.holds.honest;
           new = λ e. absurd (some_here s.asked.cluster taken.1.0 e);
           fresh = λ e. absurd (true_false (sym formatted ∙ e));
-          stored = λ honest f. subst (λ x. Stored x s.last v.history (n + 1) k.target.disk) (sym serving)
-              (grows_at s.last s.history v.history v.more n k.target.disk v.longer (subst (λ x. Stored x s.last s.history n k.target.disk) serving (a.holds.stored honest f)));
+          stored = λ honest f. subst (λ x. Stored x s.last v.history k.target.disk) (sym serving)
+              (grows_at s.last s.history v.history v.more k.target.disk v.longer (subst (λ x. Stored x s.last s.history k.target.disk) serving (a.holds.stored honest f)));
         };
       };
       disk = record { touches = touches_refl k.target.disk; cause = λ f. absurd (no_down (served_lines l k.waiting) f.1.0 v.lines f.1.1); does = refl };
@@ -381,16 +381,16 @@ state_turn e t s said n k a taken here asked settle does quiet group =
       state = b;
       turn = (taken, group, subst (λ x. SaysAll x ls b) (sym here) (b, (sym a.holds.standing, refl), refl));
       served = λ x. absurd (true_false (sym x ∙ settle));
-      agrees = record { asks = asks_on s.asked s.history said ls k k.target a.asks; few = (let f = a.few in omega (arith, f)); holds = holds_sent s n k.target s.asked.sent a.holds };
+      agrees = record { asks = asks_on s.asked s.history said ls k k.target a.asks; few = (let f = a.few in omega (arith, f)); holds = holds_sent s k.target s.asked.sent a.holds };
       disk = record { touches = touches_refl k.target.disk; cause = λ f. absurd (no_down_in (lines.State t (standing_of k.target)) f.1.0 (λ x. cc) f.1.1); does = does };
       made = sym (ap (λ x. k.target.formatted || x) quiet ∙ or_none k.target.formatted);
     }
 
 -- what a target keeps after a commit
-holds_commit : (l : Ledger) (s : State) (n : ℕ) (h : Held) (d : Shown) (ended clean : Bool) → h.ledger ≡ Some l → HoldsSame s n h → IsSome s.asked.cluster → s.standing ≡ Serving → n < 2 ^ 32 → Committed (image_bytes l) h.disk d
+holds_commit : (l : Ledger) (s : State) (h : Held) (d : Shown) (ended clean : Bool) → h.ledger ≡ Some l → HoldsSame s h → IsSome s.asked.cluster → s.standing ≡ Serving → Committed (image_bytes l) h.disk d
     → (clean ≡ true → ended ≡ true)
-    → HoldsSame (record s { asked = record s.asked { ended = ended }; formatted = is_formatted s; pend = []; last = s.last + length s.pend; clean = clean }) (n + 1) (serving_on (all_stable l) d)
-holds_commit l s n h d ended clean is a some serving few c over =
+    → HoldsSame (record s { asked = record s.asked { ended = ended }; formatted = is_formatted s; pend = []; last = s.last + length s.pend; clean = clean }) (serving_on (all_stable l) d)
+holds_commit l s h d ended clean is a some serving c over =
     let m = ledger_of h l (targets_of s) s.history s.pend is a.ledger in
     let formatted : h.formatted ≡ true = a.up (λ e. absurd (serving_down (sym serving ∙ e))) in
     let all = a.counted serving in
@@ -404,14 +404,14 @@ holds_commit l s n h d ended clean is a some serving few c over =
       honest = a.honest ∙ sym c.touches.stays.honest;
       new = λ e. absurd (some_here s.asked.cluster some e);
       fresh = λ e. absurd (true_false e);
-      stored = λ honest _. subst (λ x. Stored x (s.last + length s.pend) s.history (n + 1) d) (sym serving)
-          (commits_at s.last (length s.pend) s.history n (image_bytes l) h.disk d (subst (λ x. Stored x s.last s.history n h.disk) serving (a.stored honest formatted)) c (image_is (targets_of s) s.history s.pend l m) all few);
+      stored = λ honest _. subst (λ x. Stored x (s.last + length s.pend) s.history d) (sym serving)
+          (commits_at s.last (length s.pend) s.history (image_bytes l) h.disk d (subst (λ x. Stored x s.last s.history h.disk) serving (a.stored honest formatted)) c (image_is (targets_of s) s.history s.pend l m) all);
     }
 
 -- what a target keeps after a commit that failed
-holds_torn : (l : Ledger) (s : State) (n : ℕ) (h : Held) (d : Shown) (ended : Bool) → h.ledger ≡ Some l → HoldsSame s n h → IsSome s.asked.cluster → s.asked.ended ≡ false → s.standing ≡ Serving → n < 2 ^ 32 → Torn (image_bytes l) h.disk d
-    → HoldsSame (record s { asked = record s.asked { ended = ended }; standing = Down; formatted = is_formatted s; pend = [] }) (n + 1) (stopped true d)
-holds_torn l s n h d ended is a some going serving few c =
+holds_torn : (l : Ledger) (s : State) (h : Held) (d : Shown) (ended : Bool) → h.ledger ≡ Some l → HoldsSame s h → IsSome s.asked.cluster → s.asked.ended ≡ false → s.standing ≡ Serving → Torn (image_bytes l) h.disk d
+    → HoldsSame (record s { asked = record s.asked { ended = ended }; standing = Down; formatted = is_formatted s; pend = [] }) (stopped true d)
+holds_torn l s h d ended is a some going serving c =
     let m = ledger_of h l (targets_of s) s.history s.pend is a.ledger in
     let formatted : h.formatted ≡ true = a.up (λ e. absurd (serving_down (sym serving ∙ e))) in
     record {
@@ -420,21 +420,21 @@ holds_torn l s n h d ended is a some going serving few c =
       up = λ _. refl;
       ledger = tt;
       counted = λ e. absurd (down_serving e);
-      clean = λ e. absurd (never_clean s n h a going e);
+      clean = λ e. absurd (never_clean s h a going e);
       honest = a.honest ∙ sym c.faulted.touches.stays.honest;
       new = λ e. absurd (some_here s.asked.cluster some e);
       fresh = λ e. absurd (true_false e);
-      stored = λ honest _. torn_at s.last (length s.pend) s.history n (image_bytes l) h.disk d (subst (λ x. Stored x s.last s.history n h.disk) serving (a.stored honest formatted)) c (image_is (targets_of s) s.history s.pend l m) (a.counted serving) few;
+      stored = λ honest _. torn_at s.last (length s.pend) s.history (image_bytes l) h.disk d (subst (λ x. Stored x s.last s.history h.disk) serving (a.stored honest formatted)) c (image_is (targets_of s) s.history s.pend l m) (a.counted serving);
     }
 
-pub commit_turn : (x : Option Ledger) (t : ℕ) (s : State) (said : List Line) (n : ℕ) (k : Kept) (target : Held) (ls : List Line) → k.target.ledger ≡ x → Agrees s said n k → IsTaken s.asked (Order (commands.Commit t)) → n < 2 ^ 32 → Commits x t k.target target ls
+pub commit_turn : (x : Option Ledger) (t : ℕ) (s : State) (said : List Line) (n : ℕ) (k : Kept) (target : Held) (ls : List Line) → k.target.ledger ≡ x → Agrees s said n k → IsTaken s.asked (Order (commands.Commit t)) → Commits x t k.target target ls
     → IsTurn s said n k (Order (commands.Commit t)) (record k { target = target }) ls
-commit_turn None t s said n k target ls is a taken few c =
+commit_turn None t s said n k target ls is a taken c =
     let e : Entry = Order (commands.Commit t) in
     let stopped : serves (standing_of k.target) ≡ false = not_serving k.target is in
     subst (λ x. IsTurn s said n k e (record k { target = x }) ls) (sym c.0) (subst (λ x. IsTurn s said n k e k x) (sym c.1)
     (state_turn e t s said n k a taken refl refl refl tt refl (subst (λ x. CommitLines x t (lines.State t (standing_of k.target) ∷ [])) (sym a.holds.standing) (commit_none (standing_of k.target) t stopped))))
-commit_turn (Some l) t s said n k target ls is a taken few (inl (d, c, made, one)) =
+commit_turn (Some l) t s said n k target ls is a taken (inl (d, c, made, one)) =
     let e : Entry = Order (commands.Commit t) in
     let serving : s.standing ≡ Serving = a.holds.standing ∙ is_up k.target l is in
     let m = ledger_of k.target l (targets_of s) s.history s.pend is a.holds.ledger in
@@ -449,12 +449,12 @@ commit_turn (Some l) t s said n k target ls is a taken few (inl (d, c, made, one
       agrees = record {
         asks = asks_on s.asked s.history said line k held a.asks;
         few = (let f = a.few in omega (arith, f));
-        holds = holds_commit l s n k.target d s.asked.ended s.clean is a.holds taken.1.0 serving few c (λ x. (a.holds.clean x).0);
+        holds = holds_commit l s k.target d s.asked.ended s.clean is a.holds taken.1.0 serving c (λ x. (a.holds.clean x).0);
       };
       disk = record { touches = c.touches; cause = λ f. absurd (no_down_in (lines.Stable t l.pend) f.1.0 (λ x. cc) f.1.1); does = tt };
       made = sym (or_none k.target.formatted ∙ a.holds.up (λ x. serving_down (sym serving ∙ x)));
     }))
-commit_turn (Some l) t s said n k target ls is a taken few (inr (d, c, made, one)) =
+commit_turn (Some l) t s said n k target ls is a taken (inr (d, c, made, one)) =
     let e : Entry = Order (commands.Commit t) in
     let serving : s.standing ≡ Serving = a.holds.standing ∙ is_up k.target l is in
     let held : Held = stopped true d in
@@ -465,7 +465,7 @@ commit_turn (Some l) t s said n k target ls is a taken few (inr (d, c, made, one
       state = u;
       turn = (taken, subst (λ x. CommitLines x t line) (sym serving) (inr refl), (u, refl, refl));
       served = λ x. absurd (true_false (sym x));
-      agrees = record { asks = asks_on s.asked s.history said line k held a.asks; few = (let f = a.few in omega (arith, f)); holds = holds_torn l s n k.target d s.asked.ended is a.holds taken.1.0 taken.1.1 serving few c };
+      agrees = record { asks = asks_on s.asked s.history said line k held a.asks; few = (let f = a.few in omega (arith, f)); holds = holds_torn l s k.target d s.asked.ended is a.holds taken.1.0 taken.1.1 serving c };
       disk = record { touches = c.faulted.touches; cause = λ _. c.faulted.rose; does = tt };
       made = sym (or_none k.target.formatted ∙ a.holds.up (λ x. serving_down (sym serving ∙ x)));
     }))
@@ -475,8 +475,8 @@ end_none Serving e = absurd (true_false e)
 end_none Opened e = refl
 end_none Down e = refl
 
-holds_end : (s : State) (n : ℕ) (h : Held) → HoldsSame s n h → HoldsSame (record s { asked = record s.asked { ended = true }; formatted = is_formatted s }) (n + 1) h
-holds_end s n h a = record {
+holds_end : (s : State) (h : Held) → HoldsSame s h → HoldsSame (record s { asked = record s.asked { ended = true }; formatted = is_formatted s }) h
+holds_end s h a = record {
   standing = a.standing;
   formatted = or_again s.formatted (serves s.standing) ∙ a.formatted;
   up = a.up;
@@ -486,12 +486,12 @@ holds_end s n h a = record {
   honest = a.honest;
   new = a.new;
   fresh = a.fresh;
-  stored = λ honest f. stored_later s.standing s.last s.history n h.disk (a.stored honest f);
+  stored = a.stored;
 }
 
-pub end_turn : (x : Option Ledger) (s : State) (said : List Line) (n : ℕ) (k : Kept) (target : Held) (ls : List Line) → k.target.ledger ≡ x → Agrees s said n k → IsTaken s.asked (Order commands.End) → n < 2 ^ 32 → Ends x k.target target ls
+pub end_turn : (x : Option Ledger) (s : State) (said : List Line) (n : ℕ) (k : Kept) (target : Held) (ls : List Line) → k.target.ledger ≡ x → Agrees s said n k → IsTaken s.asked (Order commands.End) → Ends x k.target target ls
     → IsTurn s said n k (Order commands.End) (record k { ended = true; target = target }) ls
-end_turn None s said n k target ls is a taken few c =
+end_turn None s said n k target ls is a taken c =
     let e : Entry = Order commands.End in
     let stopped : serves s.standing ≡ false = ap serves a.holds.standing ∙ not_serving k.target is in
     let line : List Line = lines.EndUnclean 0 ∷ [] in
@@ -501,11 +501,11 @@ end_turn None s said n k target ls is a taken few c =
       state = u;
       turn = (taken, end_none s.standing stopped, (u, (stopped, refl), refl));
       served = λ x. absurd (true_false (sym x));
-      agrees = record { asks = asks_end s.asked s.history said line k k.target a.asks; few = (let f = a.few in omega (arith, f)); holds = holds_end s n k.target a.holds };
+      agrees = record { asks = asks_end s.asked s.history said line k k.target a.asks; few = (let f = a.few in omega (arith, f)); holds = holds_end s k.target a.holds };
       disk = record { touches = touches_refl k.target.disk; cause = λ f. absurd (no_down_in (lines.EndUnclean 0) f.1.0 (λ x. cc) f.1.1); does = tt };
       made = sym (or_none k.target.formatted);
     }))
-end_turn (Some l) s said n k target ls is a taken few (inl (d, c, made, two)) =
+end_turn (Some l) s said n k target ls is a taken (inl (d, c, made, two)) =
     let e : Entry = Order commands.End in
     let serving : s.standing ≡ Serving = a.holds.standing ∙ is_up k.target l is in
     let m = ledger_of k.target l (targets_of s) s.history s.pend is a.holds.ledger in
@@ -521,7 +521,7 @@ end_turn (Some l) s said n k target ls is a taken few (inl (d, c, made, two)) =
       agrees = record {
         asks = asks_end s.asked s.history said both k held a.asks;
         few = (let f = a.few in omega (arith, f));
-        holds = holds_commit l s n k.target d true true is a.holds taken.1.0 serving few c (λ _. refl);
+        holds = holds_commit l s k.target d true true is a.holds taken.1.0 serving c (λ _. refl);
       };
       disk = record { touches = c.touches; cause = λ f. absurd (other f.1.0 f.1.1); does = tt };
       made = sym (or_none k.target.formatted ∙ a.holds.up (λ x. serving_down (sym serving ∙ x)));
@@ -531,7 +531,7 @@ end_turn (Some l) s said n k target ls is a taken few (inl (d, c, made, two)) =
     other t (inl e) = cc
     other t (inr (inl e)) = cc
     other t (inr (inr m)) = m
-end_turn (Some l) s said n k target ls is a taken few (inr (d, c, made, two)) =
+end_turn (Some l) s said n k target ls is a taken (inr (d, c, made, two)) =
     let e : Entry = Order commands.End in
     let serving : s.standing ≡ Serving = a.holds.standing ∙ is_up k.target l is in
     let held : Held = stopped true d in
@@ -542,7 +542,7 @@ end_turn (Some l) s said n k target ls is a taken few (inr (d, c, made, two)) =
       state = u;
       turn = (taken, subst (λ x. EndLines x both) (sym serving) (inr refl), (u, refl, (u, (refl, refl), refl)));
       served = λ x. absurd (true_false (sym x));
-      agrees = record { asks = asks_end s.asked s.history said both k held a.asks; few = (let f = a.few in omega (arith, f)); holds = holds_torn l s n k.target d true is a.holds taken.1.0 taken.1.1 serving few c };
+      agrees = record { asks = asks_end s.asked s.history said both k held a.asks; few = (let f = a.few in omega (arith, f)); holds = holds_torn l s k.target d true is a.holds taken.1.0 taken.1.1 serving c };
       disk = record { touches = c.faulted.touches; cause = λ _. c.faulted.rose; does = tt };
       made = sym (or_none k.target.formatted ∙ a.holds.up (λ x. serving_down (sym serving ∙ x)));
     }))

@@ -1,11 +1,10 @@
 -- What a line of the scenario does to the disk of its target.
-use Rattle.std.specs.Prelude.{◌≡◌, ◌≤◌, ◌⊎◌, ◌||◌, ℕ, Bool, true, false, IsTrue, length, List, [], ◌∷◌, Some, None, Ok, Err}
+use Rattle.std.specs.Prelude.{◌≡◌, ◌≤◌, ◌⊎◌, ◌||◌, ℕ, Bool, true, false, IsTrue, length, List, [], ◌∷◌, Some, None, Ok, Err, if◌then◌else◌}
 use Rattle.std.specs.List.{AllByRecursion}
 use Rattle.outside.specs.Causes.{Rose}
 use Rattle.outside.specs.Disk.{Shown, Stays, IsImage, settles}
-use Rattle.target_disk.specs.Slots.{Saved, opened}
-use Rattle.target_disk.specs.Look.{gates_of}
-use Rattle.target_disk.specs.Reads.{Keeps}
+use Rattle.target_disk.specs.Tables.{Saved, is_open, opened}
+use Rattle.target_disk.specs.Open.{Reopens}
 use Rattle.target_disk.specs.Store.{IsSettled}
 use Rattle.scenario_text.specs.Spelling.{Entry, Skip, Order}
 use Rattle.scenario_text.specs.Machine.{Group, Among}
@@ -47,13 +46,13 @@ pub record StaysOff (old new : Shown) : Type 0 where
   pub content : IsTrue old.honest → new.content ≡ old.content
   pub settled : IsTrue old.honest → new.settled ≡ old.settled
 
--- it was stopped and started, and then read; what was read is what it holds then, where it tells that
+-- it was stopped and started, and then opened; what was read is what it holds then, where it tells that
 abbrev pub ReadsAfterStop : (List ℕ → Type 0) → Shown → Shown → Type 0
-ReadsAfterStop P old new = (mid : Shown) × Cycled old mid × Keeps mid new × (IsTrue mid.tells → P mid.content)
+ReadsAfterStop P old new = (mid : Shown) × Cycled old mid × Reopens mid new × (IsTrue mid.tells → P mid.content)
 
--- it couldn't be stopped and started, or a call failed after that, and only reads came between
+-- it couldn't be stopped and started, or a call of opening it failed after that
 abbrev pub FailsToRead : Shown → Shown → Type 0
-FailsToRead old new = StaysOff old new ⊎ ((mid : Shown) × Cycled old mid × Keeps mid new × Rose mid.faults new.faults)
+FailsToRead old new = StaysOff old new ⊎ ((mid : Shown) × Cycled old mid × Reopens mid new × Rose mid.faults new.faults)
 
 -- it was stopped and started, and then formatted
 abbrev pub FormatsAfterStop : Shown → Shown → Type 0
@@ -69,7 +68,11 @@ abbrev pub HoldsNumbers : ℕ → List ℕ → List ℕ → Type 0
 HoldsNumbers transno numbers content =
     (s : Saved) × (opened content ≡ Some s) × (numbers_in s.bytes ≡ Ok numbers) × (transno ≡ length numbers)
 
--- they don't open, and these gates are open
+-- the gate, as a number
+abbrev pub gates_of : List ℕ → ℕ
+gates_of content = if is_open content then 1 else 0
+
+-- they don't open, and this is the gate
 abbrev pub HoldsNothing : ℕ → List ℕ → Type 0
 HoldsNothing gates content = (opened content ≡ None) × (gates ≡ gates_of content)
 

@@ -11,7 +11,7 @@ use Rattle.tree_model.specs.declared.reply.Reply.{Reply}
 use Rattle.tree_model.specs.declared.reply.Reply.TheVariants as replies
 use Rattle.tree_model.specs.Errnos.{errno_code}
 use Rattle.tree_model.specs.History.{Item}
-use Rattle.target_disk.specs.Slots.{Saved, opened}
+use Rattle.target_disk.specs.Tables.{Saved, opened}
 
 abbrev pub image_magic : ℕ
 image_magic = 0x444e4530

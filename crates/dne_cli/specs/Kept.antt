@@ -1,9 +1,9 @@
 -- What a session keeps, and what a line of the scenario makes of it.
-use Rattle.std.specs.Prelude.{◌≡◌, ◌≤◌, ◌<◌, ◌+◌, ◌-◌, ◌^◌, ◌⊎◌, nat_lt, length, ℕ, Bool, true, false, IsTrue, List, [], ◌∷◌, ◌++◌, slice_set, slice_index_or, replicate, Option, Some, None, Ok, Err, if◌then◌else◌, is_some, refl}
+use Rattle.std.specs.Prelude.{◌≡◌, ◌≤◌, ◌+◌, ◌⊎◌, nat_lt, length, ℕ, Bool, true, false, IsTrue, List, [], ◌∷◌, ◌++◌, slice_set, slice_index_or, replicate, Option, Some, None, Ok, Err, if◌then◌else◌, is_some, refl}
 use Rattle.std.specs.List.{flat_map}
 use Rattle.std.specs.Coded.{Coded, code_by, coded×, coded_ℕ, coded_list, coded_bool, coded_option}
 use Rattle.outside.specs.Disk.{Shown, IsImage}
-use Rattle.target_disk.specs.Slots.{Saved, opened}
+use Rattle.target_disk.specs.Tables.{Saved, opened}
 use Rattle.target_disk.specs.Store.{IsSettled, OpensAsEither, next}
 use Rattle.tree_model.specs.Tree.{Grown, base, coded_grown}
 use Rattle.tree_model.specs.Step.{step}
@@ -143,12 +143,12 @@ all_stable l = record l { pend = [] }
 -- an image that was committed
 pub record Committed (bytes : List ℕ) (old new : Shown) : Type 0 where
   pub touches : Touches old new
-  pub done : (s : Saved) → IsSettled old s → s.generation < 2 ^ 64 - 1 → IsSettled new (next s bytes)
+  pub done : (s : Saved) → IsSettled old s → IsSettled new (next s bytes)
 
 -- an image whose commit failed: the disk opens as before, or as after
 pub record Torn (bytes : List ℕ) (old new : Shown) : Type 0 where
   pub faulted : Faulted old new
-  pub either : (s : Saved) → IsSettled old s → s.generation < 2 ^ 64 - 1 → OpensAsEither new s (next s bytes)
+  pub either : (s : Saved) → IsSettled old s → OpensAsEither new s (next s bytes)
 
 -- a disk that a stop left with one of its images, which was read
 pub record Reopened (old new : Shown) (transno : ℕ) (numbers : List ℕ) : Type 0 where
@@ -157,18 +157,22 @@ pub record Reopened (old new : Shown) (transno : ℕ) (numbers : List ℕ) : Typ
   pub counted : transno ≡ length numbers
   pub read : IsTrue old.honest → (image : List ℕ) × IsImage old.settled image × ((s : Saved) × (opened image ≡ Some s) × (numbers_in s.bytes ≡ Ok numbers) × IsSettled new s)
 
--- a disk that couldn't be read for a fault: it has no image that it hadn't before
+-- each image opens as one of those did that the disk had before
+abbrev pub OpensAsBefore : Shown → Shown → Type 0
+OpensAsBefore old new = (image : List ℕ) → IsImage new.settled image → (before : List ℕ) × IsImage old.settled before × (opened image ≡ opened before)
+
+-- a disk that couldn't be read for a fault
 pub record Unread (old new : Shown) : Type 0 where
   pub faulted : Faulted old new
   pub after_stop : FailsToRead old new
-  pub images : IsTrue old.honest → (image : List ℕ) → IsImage new.settled image → IsImage old.settled image
+  pub images : IsTrue old.honest → OpensAsBefore old new
 
 -- a disk that was read and holds this: it doesn't open, or opens as what is no image
 pub record Damaged (P : List ℕ → Type 0) (old new : Shown) : Type 0 where
   pub touches : Touches old new
   pub after_stop : ReadsAfterStop P old new
   pub cause : IsTrue old.honest → (image : List ℕ) × IsImage old.settled image × ((opened image ≡ None) ⊎ ((s : Saved) × (place : ℕ) × (opened image ≡ Some s) × (numbers_in s.bytes ≡ Err place)))
-  pub images : IsTrue old.honest → (image : List ℕ) → IsImage new.settled image → IsImage old.settled image
+  pub images : IsTrue old.honest → OpensAsBefore old new
 
 -- a disk that was formatted again
 pub record Reformatted (old new : Shown) : Type 0 where

@@ -2,7 +2,7 @@
 use Rattle.std.specs.Prelude.{◌≡◌, ◌≢◌, ◌<◌, ◌≤◌, ◌⊎◌, ◌+◌, ◌==◌, max, length, take, ℕ, Bool, true, false, IsTrue, List, [], ◌∷◌, ◌++◌, Option, Some, None, IfSome, if◌then◌else◌}
 use Rattle.std.specs.List.{AllByRecursion}
 use Rattle.outside.specs.Disk.{Shown, IsImage}
-use Rattle.target_disk.specs.Slots.{opened}
+use Rattle.target_disk.specs.Tables.{opened}
 use Rattle.target_disk.specs.Store.{IsSettled}
 use Rattle.tree_model.specs.History.{Item, tree_of}
 use Rattle.tree_model.specs.OpText.{IsOp}
@@ -42,27 +42,25 @@ abbrev pub AreDistinct : List Request → Type 0
 AreDistinct [] = Unit {0}
 AreDistinct (r ∷ rs) = AllByRecursion (λ q. q.number ≢ r.number) rs × AreDistinct rs
 
--- the commit of a front of a history, so long, by the end of so many lines of the scenario
-pub record StandsAt (last : ℕ) (history : List Item) (lines : ℕ) (disk : Shown) : Type 0 where
+-- the commit of a front of a history, so long
+pub record StandsAt (last : ℕ) (history : List Item) (disk : Shown) : Type 0 where
   pub generation : ℕ
-  pub low : generation ≤ lines + 1
   pub accepted : last ≤ length history
   pub settled : IsSettled disk (record { generation = generation; bytes = image_of (take last history) })
 
 -- an image that opens as the commit of a front of a history, at least so long
-pub record OpensAsFront (last : ℕ) (history : List Item) (lines : ℕ) (image : List ℕ) : Type 0 where
+pub record OpensAsFront (last : ℕ) (history : List Item) (image : List ℕ) : Type 0 where
   pub generation : ℕ
-  pub low : generation ≤ lines + 1
   pub count : ℕ
   pub stable : last ≤ count
   pub accepted : count ≤ length history
   pub opens : opened image ≡ Some (record { generation = generation; bytes = image_of (take count history) })
 
 -- what a disk holds by the target's standing
-abbrev pub Stored : Standing → ℕ → List Item → ℕ → Shown → Type 0
-Stored Serving last history lines disk = StandsAt last history lines disk
-Stored Opened last history lines disk = StandsAt last history lines disk
-Stored Down last history lines disk = (image : List ℕ) → IsImage disk.settled image → OpensAsFront last history lines image
+abbrev pub Stored : Standing → ℕ → List Item → Shown → Type 0
+Stored Serving last history disk = StandsAt last history disk
+Stored Opened last history disk = StandsAt last history disk
+Stored Down last history disk = (image : List ℕ) → IsImage disk.settled image → OpensAsFront last history image
 
 -- a request that is played, in a cluster of one target
 abbrev pub IsPlayedRequest : Request → Type 0
@@ -82,8 +80,8 @@ pub record AsksSame (a : Asked) (history : List Item) (said : List Line) (k : Ke
   pub apart : AreDistinct k.waiting
   pub answered : AllByRecursion (λ r. HasAnswer r.number said ⊎ Among k.waiting r) a.sent
 
--- what a target keeps of the machine's state, after so many lines of the scenario
-pub record HoldsSame (s : State) (lines : ℕ) (h : Held) : Type 0 where
+-- what a target keeps of the machine's state
+pub record HoldsSame (s : State) (h : Held) : Type 0 where
   pub standing : s.standing ≡ standing_of h
   pub formatted : is_formatted s ≡ h.formatted
   pub up : (s.standing ≡ Down → ⊥) → h.formatted ≡ true
@@ -93,14 +91,14 @@ pub record HoldsSame (s : State) (lines : ℕ) (h : Held) : Type 0 where
   pub honest : s.honest ≡ h.disk.honest
   pub new : s.asked.cluster ≡ None → (s.history ≡ []) × (s.pend ≡ []) × (s.last ≡ 0) × (h.formatted ≡ false) × (s.clean ≡ false)
   pub fresh : h.formatted ≡ false → (s.history ≡ []) × (s.last ≡ 0)
-  pub stored : IsTrue s.honest → h.formatted ≡ true → Stored s.standing s.last s.history lines h.disk
+  pub stored : IsTrue s.honest → h.formatted ≡ true → Stored s.standing s.last s.history h.disk
 
 -- what a session keeps of the machine's state, after these lines of the transcript, and so many of the
 -- scenario
 pub record Agrees (s : State) (said : List Line) (lines : ℕ) (k : Kept) : Type 0 where
   pub asks : AsksSame s.asked s.history said k
   pub few : length s.history + length k.waiting ≤ lines
-  pub holds : HoldsSame s lines k.target
+  pub holds : HoldsSame s k.target
 
 -- a session has come to this place
 pub record Reached (first : Shown) (lines : List (List ℕ)) (text : List ℕ) (k : Kept) : Type 0 where

@@ -1,11 +1,10 @@
 //! A target: it serves, or was opened, or is down. Each step takes it and gives what it has become.
 ghost use Rattle.std.specs.Prelude.{◌≡◌, ◌≤◌, ◌+◌, [], length, false, true, IfOk, IfErr, OnSome, Some, None, is_some};
-ghost use Rattle.target_disk.specs.Slots.{slot_len};
 ghost use Rattle.outside.specs.Disk.{Fuse};
 ghost use Rattle.dne_cli.specs.Image.{image_of};
-ghost use Rattle.dne_cli.specs.Disks.{Faulted, Formatted};
-ghost use Rattle.dne_cli.specs.Kept.{all_stable, Committed, image_bytes, Reformatted, Reopened, standing_of, Torn, Unformatted};
-ghost use Rattle.dne_cli.specs.Restart.{FailsToReopen, fuse_of, held_of};
+ghost use Rattle.dne_cli.specs.Disks.{Formatted};
+ghost use Rattle.dne_cli.specs.Kept.{all_stable, Committed, image_bytes, Reformatted, Reopened, standing_of, Torn};
+ghost use Rattle.dne_cli.specs.Restart.{FailsToMake, FailsToRemake, FailsToReopen, fuse_of, held_of};
 
 use crate::image::{ImageFault, read_numbers};
 use crate::ledger::Ledger;
@@ -13,7 +12,7 @@ use fid_space::Numbers;
 use outside::Plant;
 use scenario_text::Standing;
 use std::alloc::Global;
-use target_disk::{CommitFault, FormatFault, OpenStoreFault, Store};
+use target_disk::{CommitFault, FormatFault, OpenStoreFault, Store, a_settled_disk_stands};
 
 /// A target that serves: its store, and what it keeps in memory.
 #[derive(Drop)]
@@ -45,10 +44,19 @@ pub enum Target<D: Plant> {
 pub enum ReopenFault<D> {
     /// A call of the disk failed.
     Disk(D),
-    /// No open gate stands over a readable slot. Bit i is set where gate i is open.
+    /// The table that the gate names isn't readable: 1 where the gate is open, else 0.
     Gates(D, u8),
     /// The bytes are no image from this one on.
     Image(D, u64),
+    /// Memory ran out.
+    Memory(D),
+}
+
+/// Why a disk wasn't formatted. Each gives the disk back.
+#[derive(Drop)]
+pub enum MakeFault<D> {
+    /// A call of the disk failed.
+    Disk(D),
     /// Memory ran out.
     Memory(D),
 }
@@ -91,16 +99,20 @@ impl<D: Plant> Target<D> {
 }
 
 /// Makes a disk the store of an image of nothing.
-pub fn format_disk<D: Plant>(alloc: Global, disk: D, image: &[u8]) -> Result<Store<D>, D>
+pub fn format_disk<D: Plant>(
+    alloc: Global,
+    disk: D,
+    image: &[u8],
+) -> Result<Store<D>, MakeFault<D>>
     requires { image.now ≡ image_of [] }
-    ensures ok { IfOk result (λ s. Formatted (D.shown disk) (D.shown s)) }
-    ensures err { IfErr result (λ d. Faulted (D.shown disk) (D.shown d)) }
+    ensures ok { IfOk result (λ s. Formatted (D.shown disk) (D.shown s.disk)) }
+    ensures err { IfErr result (λ e. FailsToMake D.shown (D.shown disk) e) }
 {
     match Store::format(alloc, disk, image) {
         Ok(store) => Ok(store),
-        Err(FormatFault::Disk(disk)) => Err(disk),
+        Err(FormatFault::Disk(disk)) => Err(MakeFault::Disk(disk)),
         Err(FormatFault::Full(_, _)) => unreachable!(),
-        Err(FormatFault::Memory(_)) => unreachable!(),
+        Err(FormatFault::Memory(disk)) => Err(MakeFault::Memory(disk)),
     }
 }
 
@@ -108,11 +120,12 @@ pub fn format_disk<D: Plant>(alloc: Global, disk: D, image: &[u8]) -> Result<Sto
 /// fault, the disk alone.
 pub fn commit<D: Plant>(served: Served<D>) -> Result<(Served<D>, Numbers), D>
     requires { served.ledger.count ≤ 65537 }
-    ensures ok { IfOk result (λ p. Committed (image_bytes served.ledger) (D.shown served.store) (D.shown p.0.store)) }
+    ensures ok { IfOk result (λ p. Committed (image_bytes served.ledger) (D.shown served.store.disk) (D.shown p.0.store.disk)) }
     ensures ledger { IfOk result (λ p. p.0.ledger ≡ all_stable served.ledger) }
     ensures numbers { IfOk result (λ p. p.1 ≡ served.ledger.pend) }
-    ensures err { IfErr result (λ d. Torn (image_bytes served.ledger) (D.shown served.store) (D.shown d)) }
+    ensures err { IfErr result (λ d. Torn (image_bytes served.ledger) (D.shown served.store.disk) (D.shown d)) }
 {
+    a_settled_disk_stands();
     let mut store = served.store;
     let mut ledger = served.ledger;
     match store.commit(ledger.image()) {
@@ -128,7 +141,7 @@ pub fn commit<D: Plant>(served: Served<D>) -> Result<(Served<D>, Numbers), D>
 /// Starts from a disk that was formatted: stops what it was doing, opens it, and reads the numbers that
 /// its image holds.
 pub fn reopen<D: Plant>(alloc: Global, disk: D) -> Result<(Store<D>, Numbers), ReopenFault<D>>
-    ensures ok { IfOk result (λ p. Reopened (D.shown disk) (D.shown p.0) (length p.1) p.1) }
+    ensures ok { IfOk result (λ p. Reopened (D.shown disk) (D.shown p.0.disk) (length p.1) p.1) }
     ensures err { IfErr result (λ e. FailsToReopen D.shown (D.shown disk) e) }
 {
     let mut disk = disk;
@@ -148,14 +161,18 @@ pub fn reopen<D: Plant>(alloc: Global, disk: D) -> Result<(Store<D>, Numbers), R
 }
 
 /// Formats again a disk whose formatting failed: it stops what it was doing first.
-pub fn reformat<D: Plant>(alloc: Global, disk: D, image: &[u8]) -> Result<Store<D>, D>
+pub fn reformat<D: Plant>(
+    alloc: Global,
+    disk: D,
+    image: &[u8],
+) -> Result<Store<D>, MakeFault<D>>
     requires { image.now ≡ image_of [] }
-    ensures ok { IfOk result (λ s. Reformatted (D.shown disk) (D.shown s)) }
-    ensures err { IfErr result (λ d. Unformatted (D.shown disk) (D.shown d)) }
+    ensures ok { IfOk result (λ s. Reformatted (D.shown disk) (D.shown s.disk)) }
+    ensures err { IfErr result (λ e. FailsToRemake D.shown (D.shown disk) e) }
 {
     let mut disk = disk;
     if disk.power_cycle().is_err() {
-        return Err(disk);
+        return Err(MakeFault::Disk(disk));
     }
     format_disk(alloc, disk, image)
 }

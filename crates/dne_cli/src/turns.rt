@@ -11,7 +11,7 @@ ghost use Rattle.dne_cli.specs.Session.{count_of};
 
 use crate::image::Image;
 use crate::ledger::Ledger;
-use crate::target::{Halted, ReopenFault, Served, Target, commit, format_disk, reformat, reopen};
+use crate::target::{Halted, MakeFault, ReopenFault, Served, Target, commit, format_disk, reformat, reopen};
 use fid_space::{Bytes, Numbers};
 use outside::Plant;
 use scenario_text::{
@@ -34,7 +34,8 @@ pub fn found_target<D: Plant>(
 {
     match format_disk(alloc, target.into_disk(), ledger.image()) {
         Ok(store) => (Target::Serving(Served { store, ledger }), Ok(())),
-        Err(disk) => (halted(disk, false), print_down(0, out)),
+        Err(MakeFault::Disk(disk)) => (halted(disk, false), print_down(0, out)),
+        Err(MakeFault::Memory(disk)) => (halted(disk, false), Err(Memory)),
     }
 }
 
@@ -170,7 +171,8 @@ fn restore<D: Plant>(
             Target::Opened(store),
             print_up(number, 0, &Numbers::new(alloc), out),
         ),
-        Err(disk) => (halted(disk, false), print_down(number, out)),
+        Err(MakeFault::Disk(disk)) => (halted(disk, false), print_down(number, out)),
+        Err(MakeFault::Memory(disk)) => (halted(disk, false), Err(Memory)),
     }
 }
 

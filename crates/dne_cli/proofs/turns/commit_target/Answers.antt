@@ -11,9 +11,9 @@ pub returns-in-Ok-clause-lines : goal.returns-in-Ok-clause-lines
 returns-in-Ok-clause-lines g c =
     let number = c.args.number in
     let ledger = c.in-Serving.served.ledger in
-    let disk = g.D.Disk.shown c.in-Serving.served.store in
+    let disk = g.D.Disk.shown c.in-Serving.served.store.disk in
     let after = c.in-Ok.served.ledger in
-    let new = g.D.Disk.shown c.in-Ok.served.store in
+    let new = g.D.Disk.shown c.in-Ok.served.store.disk in
     let numbers = c.in-Ok.numbers in
     rw c.in-Serving.is (printed c.print_stable.result c.args.out.now c.print_stable.new.out (lines.Stable number numbers) (λ ls. CommitsLedger ledger disk (serving_on after new) ls (lines.Stable number ledger.pend ∷ []) (lines.Down number ∷ []))
     c.print_stable.ensures.ok
@@ -23,7 +23,7 @@ pub returns-in-Err-clause-lines : goal.returns-in-Err-clause-lines
 returns-in-Err-clause-lines g c =
     let number = c.args.number in
     let ledger = c.in-Serving.served.ledger in
-    let disk = g.D.Disk.shown c.in-Serving.served.store in
+    let disk = g.D.Disk.shown c.in-Serving.served.store.disk in
     let new = held_of g.D.Disk.shown c.halted.result in
     rw c.in-Serving.is (printed c.print_down.result c.args.out.now c.print_down.new.out (lines.Down number) (λ ls. CommitsLedger ledger disk new ls (lines.Stable number ledger.pend ∷ []) (lines.Down number ∷ []))
     c.print_down.ensures.ok

@@ -8,9 +8,9 @@ use Rattle.dne_cli.proofs.turns.end_target.Goals as goal
 pub returns-in-Ok-clause-lines : goal.returns-in-Ok-clause-lines
 returns-in-Ok-clause-lines g c =
     let ledger = c.in-Serving.served.ledger in
-    let disk = g.D.Disk.shown c.in-Serving.served.store in
+    let disk = g.D.Disk.shown c.in-Serving.served.store.disk in
     let after = c.in-Ok.served.ledger in
-    let new = g.D.Disk.shown c.in-Ok.served.store in
+    let new = g.D.Disk.shown c.in-Ok.served.store.disk in
     let numbers = c.in-Ok.numbers in
     let failed = lines.Down 0 ∷ lines.EndUnclean 0 ∷ [] in
     rw c.in-Serving.is (printed_all c.print_clean.result c.args.out.now c.print_clean.new.out (lines.Stable 0 numbers ∷ lines.EndClean ∷ []) (λ ls. CommitsLedger ledger disk (serving_on after new) ls (lines.Stable 0 ledger.pend ∷ lines.EndClean ∷ []) failed)
@@ -20,7 +20,7 @@ returns-in-Ok-clause-lines g c =
 pub returns-in-Err-clause-lines : goal.returns-in-Err-clause-lines
 returns-in-Err-clause-lines g c =
     let ledger = c.in-Serving.served.ledger in
-    let disk = g.D.Disk.shown c.in-Serving.served.store in
+    let disk = g.D.Disk.shown c.in-Serving.served.store.disk in
     let new = held_of g.D.Disk.shown c.halted.result in
     let failed = lines.Down 0 ∷ lines.EndUnclean 0 ∷ [] in
     rw c.in-Serving.is (printed_all c.print_unclean.result c.args.out.now c.print_unclean.new.out failed (λ ls. CommitsLedger ledger disk new ls (lines.Stable 0 ledger.pend ∷ lines.EndClean ∷ []) failed)

@@ -10,7 +10,7 @@ use Rattle.dne_cli.proofs.turns.restore.Goals as goal
 pub returns-in-Ok-reformat-clause-lines : goal.returns-in-Ok-reformat-clause-lines
 returns-in-Ok-reformat-clause-lines g c =
     let disk = g.D.Disk.shown c.args.disk in
-    let new = g.D.Disk.shown c.in-Ok-reformat.store in
+    let new = g.D.Disk.shown c.in-Ok-reformat.store.disk in
     let out = c.args.out.now in
     let printed_out = c.print_up-in-Ok-reformat.new.out in
     printed c.print_up-in-Ok-reformat.result out printed_out (lines.Up c.args.number 0 []) (λ ls. Reformats disk c.args.number (opened_on new) ls)

@@ -11,7 +11,7 @@ use Rattle.dne_cli.proofs.turns.start.Goals as goal
 pub returns-in-Ok-clause-lines : goal.returns-in-Ok-clause-lines
 returns-in-Ok-clause-lines g c =
     let disk = g.D.Disk.shown c.args.disk in
-    let new = g.D.Disk.shown c.in-Ok.store in
+    let new = g.D.Disk.shown c.in-Ok.store.disk in
     let numbers = c.in-Ok.numbers in
     printed c.print_up.result c.args.out.now c.print_up.new.out (lines.Up c.args.number (length numbers) numbers) (λ ls. Starts disk c.args.number (opened_on new) ls)
     (subst (λ (n : ℕ). OnOk c.print_up.result (c.print_up.new.out ≡ c.args.out.now ++ up_text c.args.number n numbers)) c.len-transno.ensures c.print_up.ensures.ok)

@@ -11,6 +11,7 @@ use Rattle.scenario_text.proofs.OneLine.{entry_line, one_entry}
 use Rattle.scenario_text.proofs.Runs.{run_asked, run_taken}
 use Rattle.line_player.specs.Played.{IsLine, bytes_of}
 use Rattle.line_player.proofs.Complete.{AreRight}
+use Rattle.dne_cli.specs.Disks.{Calls}
 use Rattle.dne_cli.specs.Transcript.{IsScenario, Place, lines_in, play_rules}
 
 parts : {X : Type 0} (x y : X) (a b : List X) → x ∷ a ≡ y ∷ b → (x ≡ y) × (a ≡ b)
@@ -54,8 +55,8 @@ are_lines : (a : Asked) (es : List Entry) → AreTaken a es → AllByRecursion (
 are_lines a [] taken short = tt
 are_lines a (e ∷ es) taken short = ((entry_line a.cluster e taken.0.0, short.0), are_lines (asked_after a e) es taken.1 short.1)
 
-pub right_lines : (first disk : Shown) (bytes : List ℕ) (s : IsScenario bytes) → AreRight (play_rules first disk) bytes (map line_of s.entries)
-right_lines first disk bytes s = record {
+pub right_lines : (calls : Calls) (first disk : Shown) (bytes : List ℕ) (s : IsScenario bytes) → AreRight (play_rules calls first disk) bytes (map line_of s.entries)
+right_lines calls first disk bytes s = record {
   closes = subst (λ w. Closes (Unit {0}) bytes w) (sym (scenario_bytes s.entries)) s.closes;
   short = s.short;
   are = record {
@@ -63,13 +64,13 @@ right_lines first disk bytes s = record {
     few = (let size = length-map s.entries line_of in let few = s.few in omega (arith, size, few));
   };
   right = λ lines others text line split bad.
-      let p : Place first disk lines text = bad.0 in
+      let p : Place calls first disk lines text = bad.0 in
       let ds : List Entry = entries_of p.groups in
       let is : map line_of s.entries ≡ map line_of ds ++ line ∷ others = split ∙ ap (λ l. l ++ line ∷ others) (p.spelled ∙ entry_lines p.groups) in
       let next = next_taken nothing_asked ds s.entries line others (run_taken p.groups (start first.honest) p.state p.run) s.taken is in
       bad.1 next.0 (subst (λ a. IsTaken a next.0) (sym (run_asked p.groups (start first.honest) p.state p.run)) next.1) (sym next.2);
   ends = λ text going.
-      let p : Place first disk (map line_of s.entries) text = going.0 in
+      let p : Place calls first disk (map line_of s.entries) text = going.0 in
       let ds : List Entry = entries_of p.groups in
       let same = same_asked nothing_asked ds s.entries (run_taken p.groups (start first.honest) p.state p.run) s.taken (p.spelled ∙ entry_lines p.groups) in
       false≢true (sym going.1 ∙ ap (λ (a : Asked). a.ended) (run_asked p.groups (start first.honest) p.state p.run ∙ same) ∙ s.ended);

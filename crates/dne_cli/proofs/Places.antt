@@ -15,7 +15,7 @@ use Rattle.scenario_text.specs.declared.line.Line.{Line}
 use Rattle.scenario_text.proofs.Runs.{run_more, run_asked, served_more, lines-push}
 use Rattle.line_player.specs.Played.{AreLines, IsLine, Played, Runs, RunsOver}
 use Rattle.line_player.proofs.Mapped.{Maps}
-use Rattle.dne_cli.specs.Disks.{DiskTurn, Moves, Touches, made_all, made_by}
+use Rattle.dne_cli.specs.Disks.{Calls, DiskTurn, Moves, Touches, made_all, made_by}
 use Rattle.dne_cli.specs.Kept.{Kept, Held, no_flags, nothing_kept}
 use Rattle.dne_cli.specs.Transcript.{KeepsRun, Place, lines_in, play_rules}
 use Rattle.dne_cli.specs.Reached.{Agrees, HoldsSame, Reached, Stored, Takes, session_rules, session_takes}
@@ -24,9 +24,9 @@ use Rattle.dne_cli.proofs.Storing.{bears_all, holds_all}
 use Rattle.dne_cli.proofs.Halts.{take_turn}
 use Rattle.dne_cli.proofs.Touching.{touches_refl, touches_trans}
 
-moves_more : (gs : List Group) (made : Bool) (first mid new : Shown) (g : Group) → Moves made first gs mid → DiskTurn (made_all made gs) g mid new → Moves made first (gs ++ g ∷ []) new
-moves_more [] made first mid new g m t = (new, subst (λ d. DiskTurn made g d new) m t, refl)
-moves_more (h ∷ gs) made first mid new g m t = (m.0, m.1, moves_more gs (made_by made h) m.0 mid new g m.2 t)
+moves_more : (calls : Calls) (gs : List Group) (made : Bool) (first mid new : Shown) (g : Group) → Moves calls made first gs mid → DiskTurn calls (made_all made gs) g mid new → Moves calls made first (gs ++ g ∷ []) new
+moves_more calls [] made first mid new g m t = (new, subst (λ d. DiskTurn calls made g d new) m t, refl)
+moves_more calls (h ∷ gs) made first mid new g m t = (m.0, m.1, moves_more calls gs (made_by made h) m.0 mid new g m.2 t)
 
 made_more : (gs : List Group) (made : Bool) (g : Group) → made_all made (gs ++ g ∷ []) ≡ made_by (made_all made gs) g
 made_more [] made g = refl
@@ -55,14 +55,14 @@ keeps_run s h a same = record {
     serving_down e = cc
 
 -- one line more is run
-reach_next : (first : Shown) (lines : List (List ℕ)) (text : List ℕ) (k new : Kept) (line more : List ℕ) → length lines < 2 ^ 32 → Reached first lines text k → Takes k new line more → NoFeed line → Reached first (lines ++ line ∷ []) (text ++ more) new
-reach_next first lines text k new line more few r takes clean =
+reach_next : (calls : Calls) (first : Shown) (lines : List (List ℕ)) (text : List ℕ) (k new : Kept) (line more : List ℕ) → length lines < 2 ^ 32 → Reached calls first lines text k → Takes calls k new line more → NoFeed line → Reached calls first (lines ++ line ∷ []) (text ++ more) new
+reach_next calls first lines text k new line more few r takes clean =
     let p = r.place in
     let e : Entry = takes.0 in
     let ls : List Line = takes.1 in
     let g : Group = record { entry = e; lines = ls } in
     let gs : List Group = p.groups in
-    let turn = take_turn e p.state (lines_of gs) (length lines) k new ls r.agrees takes.2 (subst NoFeed takes.3 clean) few takes.4 in
+    let turn = take_turn calls e p.state (lines_of gs) (length lines) k new ls r.agrees takes.2 (subst NoFeed takes.3 clean) few takes.4 in
     let served : IsServed e (asked_after (asked_all nothing_asked (entries_of gs)) e).sent (lines_of gs ++ ls) =
     subst (λ (a : Asked). IsServed e (asked_after a e).sent (lines_of gs ++ ls)) (run_asked gs (start first.honest) p.state p.run) turn.served in
     let same : turn.state.honest ≡ new.target.disk.honest = turn.agrees.holds.honest in
@@ -75,7 +75,7 @@ reach_next first lines text k new line more few r takes clean =
         run = run_more gs (start first.honest) p.state g turn.state p.run turn.turn;
         served = served_more gs nothing_asked [] g p.served served;
         written = ap (λ t. t ++ more) p.written ∙ ap (λ t. transcript gs ++ t) takes.5 ∙ sym (flat_map-append line_text (lines_of gs) ls) ∙ sym (ap texts (lines-push gs g));
-        moves = moves_more gs false first k.target.disk new.target.disk g p.moves (subst (λ b. DiskTurn b g k.target.disk new.target.disk) (sym r.made) turn.disk);
+        moves = moves_more calls gs false first k.target.disk new.target.disk g p.moves (subst (λ b. DiskTurn calls b g k.target.disk new.target.disk) (sym r.made) turn.disk);
         honest = turn.disk.touches.stays.honest ∙ p.honest;
         kept = keeps_run turn.state new.target turn.agrees.holds same;
       };
@@ -84,8 +84,8 @@ reach_next first lines text k new line more few r takes clean =
     }
 
 -- nothing was read yet
-at_start : (first : Shown) → Place first first [] []
-at_start first = record {
+at_start : (calls : Calls) (first : Shown) → Place calls first first [] []
+at_start calls first = record {
   groups = [];
   state = start first.honest;
   spelled = refl;
@@ -100,10 +100,10 @@ at_start first = record {
     false_true : false ≡ true → ⊥
     false_true e = cc
 
-begins : (first : Shown) → Reached first [] [] (nothing_kept first)
+begins : (calls : Calls) (first : Shown) → Reached calls first [] [] (nothing_kept first)
 unfolding at_start no_flags
-begins first = record {
-  place = at_start first;
+begins calls first = record {
+  place = at_start calls first;
   made = refl;
   agrees = record {
     asks = record {
@@ -137,50 +137,50 @@ begins first = record {
 
 -- LINES ONE AFTER ANOTHER
 
-reach_on : (ls : List (List ℕ)) (first : Shown) (done : List (List ℕ)) (text more : List ℕ) (k new : Kept) → Runs session_takes k ls new more → AllByRecursion IsLine ls → length done + length ls ≤ 1000000 → Reached first done text k → Reached first (done ++ ls) (text ++ more) new
-reach_on [] first done text more k new r each few at =
-    subst (λ x. Reached first (done ++ []) (text ++ more) x) (sym r.0) (subst (λ ls. Reached first ls (text ++ more) k) (sym (append-nil done))
-    (subst (λ t. Reached first done t k) (sym (ap (λ m. text ++ m) r.1 ∙ append-nil text)) at))
-reach_on (l ∷ ls) first done text more k new r each few at =
+reach_on : (calls : Calls) (ls : List (List ℕ)) (first : Shown) (done : List (List ℕ)) (text more : List ℕ) (k new : Kept) → Runs (session_takes calls) k ls new more → AllByRecursion IsLine ls → length done + length ls ≤ 1000000 → Reached calls first done text k → Reached calls first (done ++ ls) (text ++ more) new
+reach_on calls [] first done text more k new r each few at =
+    subst (λ x. Reached calls first (done ++ []) (text ++ more) x) (sym r.0) (subst (λ ls. Reached calls first ls (text ++ more) k) (sym (append-nil done))
+    (subst (λ t. Reached calls first done t k) (sym (ap (λ m. text ++ m) r.1 ∙ append-nil text)) at))
+reach_on calls (l ∷ ls) first done text more k new r each few at =
     let longer = length-append done (l ∷ []) in
-    let next = reach_next first done text k r.0 l r.1 (omega (arith, few)) at r.3.0 each.0.0 in
-    let rest = reach_on ls first (done ++ l ∷ []) (text ++ r.1) r.2 r.0 new r.4 each.1 (omega (arith, few, longer)) next in
-    subst (λ x. Reached first x (text ++ more) new) (append_assoc done (l ∷ []) ls)
-    (subst (λ t. Reached first ((done ++ l ∷ []) ++ ls) t new) (append_assoc text r.1 r.2 ∙ ap (λ m. text ++ m) (sym r.5)) rest)
+    let next = reach_next calls first done text k r.0 l r.1 (omega (arith, few)) at r.3.0 each.0.0 in
+    let rest = reach_on calls ls first (done ++ l ∷ []) (text ++ r.1) r.2 r.0 new r.4 each.1 (omega (arith, few, longer)) next in
+    subst (λ x. Reached calls first x (text ++ more) new) (append_assoc done (l ∷ []) ls)
+    (subst (λ t. Reached calls first ((done ++ l ∷ []) ++ ls) t new) (append_assoc text r.1 r.2 ∙ ap (λ m. text ++ m) (sym r.5)) rest)
 
-reach_all : (first : Shown) (ls : List (List ℕ)) (text : List ℕ) (new : Kept) → AreLines ls → Runs session_takes (nothing_kept first) ls new text → Reached first ls text new
-reach_all first ls text new are r = let few = are.few in reach_on ls first [] [] text (nothing_kept first) new r are.each (omega (arith, few)) (begins first)
+reach_all : (calls : Calls) (first : Shown) (ls : List (List ℕ)) (text : List ℕ) (new : Kept) → AreLines ls → Runs (session_takes calls) (nothing_kept first) ls new text → Reached calls first ls text new
+reach_all calls first ls text new are r = let few = are.few in reach_on calls ls first [] [] text (nothing_kept first) new r are.each (omega (arith, few)) (begins calls first)
 
-touched_on : (ls : List (List ℕ)) (old new : Kept) (text : List ℕ) → Runs session_takes old ls new text → Touches old.target.disk new.target.disk
-touched_on [] old new text r = subst (λ (k : Kept). Touches old.target.disk k.target.disk) (sym r.0) (touches_refl old.target.disk)
-touched_on (l ∷ ls) old new text r = touches_trans old.target.disk r.0.target.disk new.target.disk r.3.1 (touched_on ls r.0 new r.2 r.4)
+touched_on : (calls : Calls) (ls : List (List ℕ)) (old new : Kept) (text : List ℕ) → Runs (session_takes calls) old ls new text → Touches old.target.disk new.target.disk
+touched_on calls [] old new text r = subst (λ (k : Kept). Touches old.target.disk k.target.disk) (sym r.0) (touches_refl old.target.disk)
+touched_on calls (l ∷ ls) old new text r = touches_trans old.target.disk r.0.target.disk new.target.disk r.3.1 (touched_on calls ls r.0 new r.2 r.4)
 
 since : (mid new : Kept) → (new ≡ mid) ⊎ Touches mid.target.disk new.target.disk → Touches mid.target.disk new.target.disk
 since mid new (inl e) = subst (λ (k : Kept). Touches mid.target.disk k.target.disk) (sym e) (touches_refl mid.target.disk)
 since mid new (inr t) = t
 
 -- the rules of a session are those of the transcript
-pub session_maps : (first : Shown) (new : Kept) → Maps (session_rules (nothing_kept first) new) (play_rules first new.target.disk)
-session_maps first new = record {
-  ran = λ ls text are r. (reach_all first ls text new are r).place;
-  ran_before = λ ls text are r. (r.0.target.disk, since r.0 new r.2, (reach_all first ls text r.0 are r.1).place);
+pub session_maps : (calls : Calls) (first : Shown) (new : Kept) → Maps (session_rules calls (nothing_kept first) new) (play_rules calls first new.target.disk)
+session_maps calls first new = record {
+  ran = λ ls text are r. (reach_all calls first ls text new are r).place;
+  ran_before = λ ls text are r. (r.0.target.disk, since r.0 new r.2, (reach_all calls first ls text r.0 are r.1).place);
   refuses = λ ls text line are b.
-      let r = reach_all first ls text new are b.0 in
+      let r = reach_all calls first ls text new are b.0 in
       (r.place, λ e taken. b.1 e (taken_back r.place.state.asked r.place.state.history (lines_of r.place.groups) new e r.agrees.asks taken));
-  ends = λ over ls text are b. let r = reach_all first ls text new are b.0 in (r.place, sym r.agrees.asks.ended ∙ b.1);
+  ends = λ over ls text are b. let r = reach_all calls first ls text new are b.0 in (r.place, sym r.agrees.asks.ended ∙ b.1);
 }
 
 -- whatever was written, it is the same disk
-pub touched : (first : Kept) (new : Kept) (A : Type 0) (status : Status) (read text : List ℕ) → Played (session_rules first new) A status read text → Touches first.target.disk new.target.disk
-touched first new A Done read text p = touched_on p.lines first new text p.ended.0
-touched first new A Refused read text (inl p) = touched_on p.lines first new p.before p.ran
-touched first new A Refused read text (inr p) = touched_on p.lines first new p.before p.open_end.0
-touched first new A Memory read text p = touches_trans first.target.disk p.ran.0.target.disk new.target.disk (touched_on p.lines first p.ran.0 text p.ran.1) (since p.ran.0 new p.ran.2)
-touched first new A Source read text p = touched_on p.lines first new text p.ran
-touched first new A Sink read text (more, inl p) = touches_trans first.target.disk p.ran.0.target.disk new.target.disk (touched_on p.lines first p.ran.0 (text ++ more) p.ran.1) (since p.ran.0 new p.ran.2)
-touched first new A Sink read text (more, inr (inl p)) = touched_on p.lines first new p.before p.ran
-touched first new A Sink read text (more, inr (inr p)) = touched_on p.lines first new p.before p.open_end.0
+pub touched : (calls : Calls) (first : Kept) (new : Kept) (A : Type 0) (status : Status) (read text : List ℕ) → Played (session_rules calls first new) A status read text → Touches first.target.disk new.target.disk
+touched calls first new A Done read text p = touched_on calls p.lines first new text p.ended.0
+touched calls first new A Refused read text (inl p) = touched_on calls p.lines first new p.before p.ran
+touched calls first new A Refused read text (inr p) = touched_on calls p.lines first new p.before p.open_end.0
+touched calls first new A Memory read text p = touches_trans first.target.disk p.ran.0.target.disk new.target.disk (touched_on calls p.lines first p.ran.0 text p.ran.1) (since p.ran.0 new p.ran.2)
+touched calls first new A Source read text p = touched_on calls p.lines first new text p.ran
+touched calls first new A Sink read text (more, inl p) = touches_trans first.target.disk p.ran.0.target.disk new.target.disk (touched_on calls p.lines first p.ran.0 (text ++ more) p.ran.1) (since p.ran.0 new p.ran.2)
+touched calls first new A Sink read text (more, inr (inl p)) = touched_on calls p.lines first new p.before p.ran
+touched calls first new A Sink read text (more, inr (inr p)) = touched_on calls p.lines first new p.before p.open_end.0
 
 -- want of memory before anything is read
-pub starts_short : (A : Type 0) (first disk : Shown) → Touches first disk → RunsOver (play_rules first disk) A [] []
-starts_short A first disk t = record { done = []; tail = []; split = refl; lines = []; closes = inl refl; ran = (first, t, at_start first); are = record { each = tt; few = omega arith }; short = omega arith }
+pub starts_short : (calls : Calls) (A : Type 0) (first disk : Shown) → Touches first disk → RunsOver (play_rules calls first disk) A [] []
+starts_short calls A first disk t = record { done = []; tail = []; split = refl; lines = []; closes = inl refl; ran = (first, t, at_start calls first); are = record { each = tt; few = omega arith }; short = omega arith }

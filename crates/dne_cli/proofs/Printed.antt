@@ -7,7 +7,7 @@ use Rattle.scenario_text.specs.declared.line.Line.{Line}
 use Rattle.scenario_text.specs.declared.line.Line.TheVariants as lines
 use Rattle.scenario_text.specs.declared.line.Standing.TheVariants.{Down}
 use Rattle.dne_cli.specs.Kept.{Held, Ledger, Committed, CommitsLedger, Commits, Ends, Crashes, Starts, Restarts, standing_of, stopped, serving_on, all_stable, image_bytes}
-use Rattle.dne_cli.specs.Disks.{Touches}
+use Rattle.dne_cli.specs.Disks.{Calls, Touches}
 use Rattle.dne_cli.specs.Restart.{held_of}
 use Rattle.dne_cli.specs.declared.target.Served.{Served}
 use Rattle.dne_cli.specs.declared.target.Halted.{Halted}
@@ -31,8 +31,8 @@ printed_all (Err e) old new all P says holds = tt
 pub touches_itself : (d : Shown) → Touches d d
 touches_itself d = record { stays = record { tells = refl; honest = refl; name = refl }; later = omega arith }
 
-pub starts_formatted : {T E : Type 0} (result : Result T E) (before after : List ℕ) (number : ℕ) (old new : Held) (formatted : Bool) → formatted ≡ true → OnOk result ((ls : List Line) × Starts old.disk number new ls × (after ≡ before ++ texts ls)) → OnOk result ((ls : List Line) × Restarts Down formatted number old new ls × (after ≡ before ++ texts ls))
-starts_formatted result before after number old new formatted is given = subst (λ (f : Bool). OnOk result ((ls : List Line) × Restarts Down f number old new ls × (after ≡ before ++ texts ls))) (sym is) given
+pub starts_formatted : {T E : Type 0} (calls : Calls) (result : Result T E) (before after : List ℕ) (number : ℕ) (old new : Held) (formatted : Bool) → formatted ≡ true → OnOk result ((ls : List Line) × Starts calls old.disk number new ls × (after ≡ before ++ texts ls)) → OnOk result ((ls : List Line) × Restarts calls Down formatted number old new ls × (after ≡ before ++ texts ls))
+starts_formatted calls result before after number old new formatted is given = subst (λ (f : Bool). OnOk result ((ls : List Line) × Restarts calls Down f number old new ls × (after ≡ before ++ texts ls))) (sym is) given
 
 -- TARGETS
 
@@ -60,7 +60,7 @@ module _ {D : Type 0} (shown : D → Shown) where
   crashes_up (targets.Opened x) number new other is = (is, refl)
   crashes_up (targets.Down x) number new other is = absurd (other x refl)
 
-  pub restarts_up : (target : Target D) (number : ℕ) → ((x : Halted D) → target ≡ targets.Down x → ⊥) → Restarts (standing_of (held_of shown target)) (held_of shown target).formatted number (held_of shown target) (held_of shown target) (lines.State number (standing_of (held_of shown target)) ∷ [])
-  restarts_up (targets.Serving x) number other = (refl, refl)
-  restarts_up (targets.Opened x) number other = (refl, refl)
-  restarts_up (targets.Down x) number other = absurd (other x refl)
+  pub restarts_up : (calls : Calls) (target : Target D) (number : ℕ) → ((x : Halted D) → target ≡ targets.Down x → ⊥) → Restarts calls (standing_of (held_of shown target)) (held_of shown target).formatted number (held_of shown target) (held_of shown target) (lines.State number (standing_of (held_of shown target)) ∷ [])
+  restarts_up calls (targets.Serving x) number other = (refl, refl)
+  restarts_up calls (targets.Opened x) number other = (refl, refl)
+  restarts_up calls (targets.Down x) number other = absurd (other x refl)

@@ -14,7 +14,7 @@ use Rattle.scenario_text.proofs.OneSpelling.{one_command}
 use Rattle.dne_cli.specs.Kept.{Kept, Held, Does, Obeys, is_used, turned_away}
 use Rattle.dne_cli.specs.Session.{count_of, marks, target_of}
 use Rattle.dne_cli.specs.Restart.{held_of}
-use Rattle.dne_cli.specs.Disks.{Touches}
+use Rattle.dne_cli.specs.Disks.{Calls, Touches}
 use Rattle.dne_cli.specs.Reached.{IsBad, Stands, session_takes}
 use Rattle.dne_cli.specs.declared.target.Target.{Target}
 use Rattle.dne_cli.proofs.Flags.{marks_most}
@@ -37,10 +37,10 @@ count_low h held waiting used same size low =
     subst (λ x. count_of x + length waiting ≤ 65537) same (omega (arith, size, low, most))
 
 -- a line that is skipped
-pub skipped_ok : {T E : Type 0} (result : Result T E) (k : Kept) (line out : List ℕ) → IsSkipped line → OnOk result (k.ended ≡ false)
-    → OnOk result ((e : Entry) × (ls : List Line) × Stands k e × (line ≡ line_of e) × Does k e k ls × (out ≡ out ++ texts ls))
-skipped_ok (Ok x) k line out skipped going = (Skip line, [], (skipped, going, tt), refl, (refl, refl), sym (append-nil out))
-skipped_ok (Err x) k line out skipped going = tt
+pub skipped_ok : {T E : Type 0} (calls : Calls) (result : Result T E) (k : Kept) (line out : List ℕ) → IsSkipped line → OnOk result (k.ended ≡ false)
+    → OnOk result ((e : Entry) × (ls : List Line) × Stands k e × (line ≡ line_of e) × Does calls k e k ls × (out ≡ out ++ texts ls))
+skipped_ok calls (Ok x) k line out skipped going = (Skip line, [], (skipped, going, tt), refl, (refl, refl), sym (append-nil out))
+skipped_ok calls (Err x) k line out skipped going = tt
 
 -- a line that is skipped behind the end
 pub skipped_bad : (k : Kept) (line : List ℕ) → IsSkipped line → k.ended ≡ true → ((c : Command) → IsCommand k.cluster c → IsSkipped (spelling c) → ⊥) → IsBad k line
@@ -70,11 +70,11 @@ unplayed_bad k line c other fits spelled barred (Order d) stands is =
     barred (subst IsPlayed same stands.2)
 
 -- a command that came
-pub came_ok : {T E : Type 0} (result : Result T E) (k new : Kept) (line out now : List ℕ) (c : Command) → IsCommand k.cluster c → line ≡ spelling c → MayCome k.cluster k.ended (is_used k.used) c → IsPlayed c
-    → OnOk result ((ls : List Line) × Obeys k c new ls × (now ≡ out ++ texts ls))
-    → OnOk result ((e : Entry) × (ls : List Line) × Stands k e × (line ≡ line_of e) × Does k e new ls × (now ≡ out ++ texts ls))
-came_ok (Ok x) k new line out now c fits spelled comes plays says = (Order c, says.0, (fits, comes, plays), spelled, says.1, says.2)
-came_ok (Err x) k new line out now c fits spelled comes plays says = tt
+pub came_ok : {T E : Type 0} (calls : Calls) (result : Result T E) (k new : Kept) (line out now : List ℕ) (c : Command) → IsCommand k.cluster c → line ≡ spelling c → MayCome k.cluster k.ended (is_used k.used) c → IsPlayed c
+    → OnOk result ((ls : List Line) × Obeys calls k c new ls × (now ≡ out ++ texts ls))
+    → OnOk result ((e : Entry) × (ls : List Line) × Stands k e × (line ≡ line_of e) × Does calls k e new ls × (now ≡ out ++ texts ls))
+came_ok calls (Ok x) k new line out now c fits spelled comes plays says = (Order c, says.0, (fits, comes, plays), spelled, says.1, says.2)
+came_ok calls (Err x) k new line out now c fits spelled comes plays says = tt
 
 -- a request more is turned away
 pub turned_next : (rs : List Request) (i : ℕ) (r : Request) (out new old : List ℕ) → i < length rs → r ≡ get_or rs i r → out ++ texts (turned_away (drop i rs)) ≡ old → new ≡ out ++ line_text (lines.Recovering r.number 0)
@@ -86,7 +86,7 @@ turned_next rs i r out new old low is so_far e =
     ∙ append_assoc out (line_text (lines.Recovering r.number 0)) rest ∙ ap (λ l. out ++ texts (turned_away l)) (sym here) ∙ so_far
 
 -- a line that was run is one step of the session's rules
-pub took : {T E : Type 0} (result : Result T E) (old new : Kept) (line out now : List ℕ) → OnOk result ((e : Entry) × (ls : List Line) × Stands old e × (line ≡ line_of e) × Does old e new ls × (now ≡ out ++ texts ls)) → Touches old.target.disk new.target.disk
-    → OnOk result ((more : List ℕ) × session_takes old line new more × (now ≡ out ++ more))
-took (Ok x) old new line out now says touches = (texts says.1, ((says.0, says.1, says.2, says.3, says.4, refl), touches), says.5)
-took (Err e) old new line out now says touches = tt
+pub took : {T E : Type 0} (calls : Calls) (result : Result T E) (old new : Kept) (line out now : List ℕ) → OnOk result ((e : Entry) × (ls : List Line) × Stands old e × (line ≡ line_of e) × Does calls old e new ls × (now ≡ out ++ texts ls)) → Touches old.target.disk new.target.disk
+    → OnOk result ((more : List ℕ) × session_takes calls old line new more × (now ≡ out ++ more))
+took calls (Ok x) old new line out now says touches = (texts says.1, ((says.0, says.1, says.2, says.3, says.4, refl), touches), says.5)
+took calls (Err e) old new line out now says touches = tt

@@ -11,7 +11,7 @@ use Rattle.scenario_text.specs.declared.line.Standing.{Standing}
 use Rattle.scenario_text.specs.declared.line.Standing.TheVariants.{Serving, Opened, Down}
 use Rattle.dne_cli.specs.Image.{Holds, head_bytes, image_of, numbers_in}
 use Rattle.dne_cli.specs.Kept.{Committed, Damaged, Ledger, OpensAsBefore, Reopened, Torn, image_bytes}
-use Rattle.dne_cli.specs.Disks.{Formatted}
+use Rattle.dne_cli.specs.Disks.{Calls, Formatted}
 use Rattle.dne_cli.specs.Reached.{Matches, StandsAt, Stored}
 
 -- a disk with everything settled opens as its content
@@ -90,8 +90,8 @@ pub record OpenedAt (last : ℕ) (h : List Item) (new : Shown) (transno : ℕ) (
 abbrev pub ReadsAgain : List Item → Type 0
 ReadsAgain h = (n : ℕ) → n ≤ length h → numbers_in (image_of (take n h)) ≡ Ok (numbers_of (take n h))
 
-pub opens_at : (last : ℕ) (h : List Item) (disk new : Shown) (transno : ℕ) (numbers : List ℕ) → Stored Down last h disk → Reopened disk new transno numbers → IsTrue disk.honest → ReadsAgain h → OpenedAt last h new transno numbers
-opens_at last h disk new transno numbers s r honest again =
+pub opens_at : (calls : Calls) (last : ℕ) (h : List Item) (disk new : Shown) (transno : ℕ) (numbers : List ℕ) → Stored Down last h disk → Reopened calls disk new transno numbers → IsTrue disk.honest → ReadsAgain h → OpenedAt last h new transno numbers
+opens_at calls last h disk new transno numbers s r honest again =
     let read = r.read honest in
     let o = s read.0 read.1 in
     let saved : read.2.0 ≡ record { generation = o.generation; bytes = image_of (take o.count h) } = some_same _ _ (sym read.2.1 ∙ o.opens) in
@@ -113,8 +113,8 @@ opens_at last h disk new transno numbers s r honest again =
     }
 
 -- an honest disk isn't damaged
-pub never_damaged : (P : List ℕ → Type 0) (last : ℕ) (h : List Item) (disk new : Shown) → Stored Down last h disk → Damaged P disk new → ReadsAgain h → IsTrue disk.honest → ⊥
-never_damaged P last h disk new s d again honest =
+pub never_damaged : (calls : Calls) (P : List ℕ → Type 0) (last : ℕ) (h : List Item) (disk new : Shown) → Stored Down last h disk → Damaged calls P disk new → ReadsAgain h → IsTrue disk.honest → ⊥
+never_damaged calls P last h disk new s d again honest =
     let cause = d.cause honest in
     let o = s cause.0 cause.1 in
     elim cause.2 [

@@ -17,7 +17,7 @@ use Rattle.scenario_text.specs.declared.line.Standing.TheVariants.{Serving, Open
 use Rattle.scenario_text.specs.declared.command.Command.TheVariants as commands
 use Rattle.dne_cli.specs.Image.{items_bytes}
 use Rattle.dne_cli.specs.Kept.{Kept, Held, Ledger, Committed, Torn, Commits, Ends, Founds, all_stable, empty_ledger, image_bytes, ledger_after, no_seats, served, served_lines, serving_on, settle_lines, standing_of, stopped, tree_lines, turned_away}
-use Rattle.dne_cli.specs.Disks.{DiskTurn, DoesToDisk, IsFailure, made_by, makes}
+use Rattle.dne_cli.specs.Disks.{Calls, DiskTurn, DoesToDisk, IsFailure, made_by, makes}
 use Rattle.dne_cli.specs.Reached.{IsPlayedRequest, Agrees, AsksSame, HoldsSame, Matches, Stored, greatest}
 use Rattle.dne_cli.proofs.Lists.{all_map, all_among}
 use Rattle.dne_cli.proofs.Touching.{touches_refl}
@@ -27,12 +27,12 @@ use Rattle.dne_cli.proofs.Storing.{ReadsAgain, commits_at, formats_at, grows_at,
 use Rattle.dne_cli.proofs.Images.{Fits, name_of, numbers_again}
 
 -- a turn, what it owes, what the session then keeps, and what it does to the disk
-pub record IsTurn (s : State) (said : List Line) (count : ℕ) (k : Kept) (e : Entry) (new : Kept) (ls : List Line) : Type 0 where
+pub record IsTurn (calls : Calls) (s : State) (said : List Line) (count : ℕ) (k : Kept) (e : Entry) (new : Kept) (ls : List Line) : Type 0 where
   pub state : State
   pub turn : Turn s (record { entry = e; lines = ls }) state
   pub served : IsServed e (asked_after s.asked e).sent (said ++ ls)
   pub agrees : Agrees state (said ++ ls) (count + 1) new
-  pub disk : DiskTurn k.target.formatted (record { entry = e; lines = ls }) k.target.disk new.target.disk
+  pub disk : DiskTurn calls k.target.formatted (record { entry = e; lines = ls }) k.target.disk new.target.disk
   pub made : new.target.formatted ≡ made_by k.target.formatted (record { entry = e; lines = ls })
 
 -- SMALL FACTS
@@ -140,8 +140,8 @@ holds_sent s h sent a = record {
   stored = a.stored;
 }
 
-pub skip_turn : (line : List ℕ) (s : State) (said : List Line) (n : ℕ) (k : Kept) → Agrees s said n k → IsTaken s.asked (Skip line) → IsTurn s said n k (Skip line) k []
-skip_turn line s said n k a taken = record {
+pub skip_turn : (calls : Calls) (line : List ℕ) (s : State) (said : List Line) (n : ℕ) (k : Kept) → Agrees s said n k → IsTaken s.asked (Skip line) → IsTurn calls s said n k (Skip line) k []
+skip_turn calls line s said n k a taken = record {
   state = begun s (Skip line);
   turn = (taken, refl, refl);
   served = λ e. absurd (true_false (sym e));
@@ -150,13 +150,13 @@ skip_turn line s said n k a taken = record {
   made = sym (or_none k.target.formatted);
 }
 
-pub fuse_turn : (t after choice : ℕ) (s : State) (said : List Line) (n : ℕ) (k : Kept) → Agrees s said n k → IsTaken s.asked (Order (commands.Fuse t after choice)) → IsTurn s said n k (Order (commands.Fuse t after choice)) k []
-fuse_turn t after choice s said n k a taken = record {
+pub fuse_turn : (calls : Calls) (t after choice : ℕ) (s : State) (said : List Line) (n : ℕ) (k : Kept) → Agrees s said n k → IsTaken s.asked (Order (commands.Fuse t after choice)) → calls.armed after choice k.target.disk → IsTurn calls s said n k (Order (commands.Fuse t after choice)) k []
+fuse_turn calls t after choice s said n k a taken said_so = record {
   state = begun s (Order (commands.Fuse t after choice));
   turn = (taken, refl, refl);
   served = λ e. absurd (true_false (sym e));
   agrees = record { asks = asks_on s.asked s.history said [] k k.target a.asks; few = (let f = a.few in omega (arith, f)); holds = holds_sent s k.target s.asked.sent a.holds };
-  disk = record { touches = touches_refl k.target.disk; cause = λ f. absurd f.1.1; does = refl };
+  disk = record { touches = touches_refl k.target.disk; cause = λ f. absurd f.1.1; does = (said_so, refl) };
   made = sym (or_none k.target.formatted);
 }
 
@@ -165,8 +165,8 @@ tree_none Serving e = absurd (true_false e)
 tree_none Opened e = refl
 tree_none Down e = refl
 
-pub tree_turn : (x : Option Ledger) (s : State) (said : List Line) (n : ℕ) (k : Kept) → k.target.ledger ≡ x → Agrees s said n k → IsTaken s.asked (Order commands.Tree) → IsTurn s said n k (Order commands.Tree) k (tree_lines x)
-tree_turn None s said n k is a taken =
+pub tree_turn : (calls : Calls) (x : Option Ledger) (s : State) (said : List Line) (n : ℕ) (k : Kept) → k.target.ledger ≡ x → Agrees s said n k → IsTaken s.asked (Order commands.Tree) → IsTurn calls s said n k (Order commands.Tree) k (tree_lines x)
+tree_turn calls None s said n k is a taken =
     let stopped : serves s.standing ≡ false = ap serves a.holds.standing ∙ not_serving k.target is in
     let t : State = begun s (Order commands.Tree) in
     record {
@@ -181,7 +181,7 @@ tree_turn None s said n k is a taken =
     other : (t : ℕ) → Among (lines.TreeState 0 ∷ []) (lines.Down t) → ⊥
     other t (inl e) = cc
     other t (inr m) = m
-tree_turn (Some l) s said n k is a taken =
+tree_turn calls (Some l) s said n k is a taken =
     let serving : s.standing ≡ Serving = a.holds.standing ∙ is_up k.target l is in
     let m = ledger_of k.target l (targets_of s) s.history s.pend is a.holds.ledger in
     let t : State = begun s (Order commands.Tree) in
@@ -198,9 +198,9 @@ tree_turn (Some l) s said n k is a taken =
     other t (inl e) = cc
     other t (inr m) = m
 
-pub send_turn : (r : Request) (s : State) (said : List Line) (n : ℕ) (k : Kept) → Agrees s said n k → IsTaken s.asked (Order (commands.Send r))
-    → IsTurn s said n k (Order (commands.Send r)) (record k { waiting = k.waiting ++ r ∷ []; used = set k.used r.number true }) []
-send_turn r s said n k a taken = record {
+pub send_turn : (calls : Calls) (r : Request) (s : State) (said : List Line) (n : ℕ) (k : Kept) → Agrees s said n k → IsTaken s.asked (Order (commands.Send r))
+    → IsTurn calls s said n k (Order (commands.Send r)) (record k { waiting = k.waiting ++ r ∷ []; used = set k.used r.number true }) []
+send_turn calls r s said n k a taken = record {
   state = begun s (Order (commands.Send r));
   turn = (taken, refl, refl);
   served = λ e. absurd (true_false (sym e));
@@ -213,14 +213,14 @@ send_turn r s said n k a taken = record {
   made = sym (or_none k.target.formatted);
 }
 
-pub cluster_turn : (m : ℕ) (s : State) (said : List Line) (n : ℕ) (k : Kept) (target : Held) (ls : List Line) → Agrees s said n k → IsTaken s.asked (Order (commands.Cluster m)) → Founds k.target.disk m target ls
-    → IsTurn s said n k (Order (commands.Cluster m)) (record k { cluster = Some m; target = target }) ls
+pub cluster_turn : (calls : Calls) (m : ℕ) (s : State) (said : List Line) (n : ℕ) (k : Kept) (target : Held) (ls : List Line) → Agrees s said n k → IsTaken s.asked (Order (commands.Cluster m)) → Founds k.target.disk m target ls
+    → IsTurn calls s said n k (Order (commands.Cluster m)) (record k { cluster = Some m; target = target }) ls
 unfolding no_seats
-cluster_turn m s said n k target ls a taken (inl (d, formatted, is, none)) =
+cluster_turn calls m s said n k target ls a taken (inl (d, formatted, is, none)) =
     let e : Entry = Order (commands.Cluster m) in
     let new = a.holds.new taken.1 in
     let held : Held = serving_on (empty_ledger m) d in
-    subst (λ x. IsTurn s said n k e (record k { cluster = Some m; target = x }) ls) (sym is) (subst (λ x. IsTurn s said n k e (record k { cluster = Some m; target = held }) x) (sym none)
+    subst (λ x. IsTurn calls s said n k e (record k { cluster = Some m; target = x }) ls) (sym is) (subst (λ x. IsTurn calls s said n k e (record k { cluster = Some m; target = held }) x) (sym none)
     (record {
       state = begun s e;
       turn = (taken, inl refl, refl);
@@ -254,13 +254,13 @@ cluster_turn m s said n k target ls a taken (inl (d, formatted, is, none)) =
   where
     some_none : (m : ℕ) → ◌≡◌ {A = Option ℕ} (Some m) None → ⊥
     some_none m e = cc
-cluster_turn m s said n k target ls a taken (inr (d, faulted, is, one)) =
+cluster_turn calls m s said n k target ls a taken (inr (d, faulted, is, one)) =
     let e : Entry = Order (commands.Cluster m) in
     let new = a.holds.new taken.1 in
     let held : Held = stopped false d in
     let down : List Line = lines.Down 0 ∷ [] in
     let t : State = record (begun s e) { standing = Down; pend = [] } in
-    subst (λ x. IsTurn s said n k e (record k { cluster = Some m; target = x }) ls) (sym is) (subst (λ x. IsTurn s said n k e (record k { cluster = Some m; target = held }) x) (sym one)
+    subst (λ x. IsTurn calls s said n k e (record k { cluster = Some m; target = x }) ls) (sym is) (subst (λ x. IsTurn calls s said n k e (record k { cluster = Some m; target = held }) x) (sym one)
     (record {
       state = t;
       turn = (taken, inr refl, (t, refl, refl));
@@ -289,8 +289,8 @@ cluster_turn m s said n k target ls a taken (inr (d, faulted, is, one)) =
     some_none m e = cc
 
 -- a settle of a target that doesn't serve
-away_turn : (s : State) (said : List Line) (n : ℕ) (k : Kept) → k.target.ledger ≡ None → Agrees s said n k → IsTaken s.asked (Order commands.Settle) → IsTurn s said n k (Order commands.Settle) (record k { waiting = [] }) (turned_away k.waiting)
-away_turn s said n k is a taken =
+away_turn : (calls : Calls) (s : State) (said : List Line) (n : ℕ) (k : Kept) → k.target.ledger ≡ None → Agrees s said n k → IsTaken s.asked (Order commands.Settle) → IsTurn calls s said n k (Order commands.Settle) (record k { waiting = [] }) (turned_away k.waiting)
+away_turn calls s said n k is a taken =
     let t : State = begun s (Order commands.Settle) in
     let stopped : serves s.standing ≡ false = ap serves a.holds.standing ∙ not_serving k.target is in
     let one : targets_of s ≡ 1 = ap (λ c. unwrap_or c 0) (one_target s.asked s.history said k a.asks taken.1.0) in
@@ -309,9 +309,9 @@ away_turn s said n k is a taken =
     }
 
 -- a settle of a target that serves
-serve_turn : (l : Ledger) (s : State) (said : List Line) (n : ℕ) (k : Kept) → k.target.ledger ≡ Some l → Agrees s said n k → IsTaken s.asked (Order commands.Settle)
-    → IsTurn s said n k (Order commands.Settle) (record k { waiting = []; target = record k.target { ledger = Some (served l k.waiting) } }) (served_lines l k.waiting)
-serve_turn l s said n k is a taken =
+serve_turn : (calls : Calls) (l : Ledger) (s : State) (said : List Line) (n : ℕ) (k : Kept) → k.target.ledger ≡ Some l → Agrees s said n k → IsTaken s.asked (Order commands.Settle)
+    → IsTurn calls s said n k (Order commands.Settle) (record k { waiting = []; target = record k.target { ledger = Some (served l k.waiting) } }) (served_lines l k.waiting)
+serve_turn calls l s said n k is a taken =
     let b : State = begun s (Order commands.Settle) in
     let serving : s.standing ≡ Serving = a.holds.standing ∙ is_up k.target l is in
     let one : targets_of s ≡ 1 = ap (λ c. unwrap_or c 0) (one_target s.asked s.history said k a.asks taken.1.0) in
@@ -354,11 +354,11 @@ serve_turn l s said n k is a taken =
       made = sym (or_none k.target.formatted);
     }
 
-pub settle_turn : (x : Option Ledger) (s : State) (said : List Line) (n : ℕ) (k : Kept) → k.target.ledger ≡ x → Agrees s said n k → IsTaken s.asked (Order commands.Settle)
-    → IsTurn s said n k (Order commands.Settle) (record k { waiting = []; target = record k.target { ledger = ledger_after x k.waiting } }) (settle_lines x k.waiting)
-settle_turn None s said n k is a taken =
-    subst (λ x. IsTurn s said n k (Order commands.Settle) (record k { waiting = []; target = record k.target { ledger = x } }) (turned_away k.waiting)) is (away_turn s said n k is a taken)
-settle_turn (Some l) s said n k is a taken = serve_turn l s said n k is a taken
+pub settle_turn : (calls : Calls) (x : Option Ledger) (s : State) (said : List Line) (n : ℕ) (k : Kept) → k.target.ledger ≡ x → Agrees s said n k → IsTaken s.asked (Order commands.Settle)
+    → IsTurn calls s said n k (Order commands.Settle) (record k { waiting = []; target = record k.target { ledger = ledger_after x k.waiting } }) (settle_lines x k.waiting)
+settle_turn calls None s said n k is a taken =
+    subst (λ x. IsTurn calls s said n k (Order commands.Settle) (record k { waiting = []; target = record k.target { ledger = x } }) (turned_away k.waiting)) is (away_turn calls s said n k is a taken)
+settle_turn calls (Some l) s said n k is a taken = serve_turn calls l s said n k is a taken
 
 -- COMMITS
 
@@ -372,9 +372,9 @@ commit_none Opened t e = refl
 commit_none Down t e = refl
 
 -- a target's state is told
-pub state_turn : (e : Entry) (t : ℕ) (s : State) (said : List Line) (n : ℕ) (k : Kept) → Agrees s said n k → IsTaken s.asked e → begun s e ≡ record s { formatted = is_formatted s } → asked_after s.asked e ≡ s.asked → is_settle e ≡ false → DoesToDisk k.target.formatted e (lines.State t (standing_of k.target) ∷ []) k.target.disk k.target.disk
-    → makes e (lines.State t (standing_of k.target) ∷ []) ≡ false → IsGroup s.standing e (lines.State t (standing_of k.target) ∷ []) → IsTurn s said n k e k (lines.State t (standing_of k.target) ∷ [])
-state_turn e t s said n k a taken here asked settle does quiet group =
+pub state_turn : (calls : Calls) (e : Entry) (t : ℕ) (s : State) (said : List Line) (n : ℕ) (k : Kept) → Agrees s said n k → IsTaken s.asked e → begun s e ≡ record s { formatted = is_formatted s } → asked_after s.asked e ≡ s.asked → is_settle e ≡ false → DoesToDisk calls k.target.formatted e (lines.State t (standing_of k.target) ∷ []) k.target.disk k.target.disk
+    → makes e (lines.State t (standing_of k.target) ∷ []) ≡ false → IsGroup s.standing e (lines.State t (standing_of k.target) ∷ []) → IsTurn calls s said n k e k (lines.State t (standing_of k.target) ∷ [])
+state_turn calls e t s said n k a taken here asked settle does quiet group =
     let b : State = record s { formatted = is_formatted s } in
     let ls : List Line = lines.State t (standing_of k.target) ∷ [] in
     record {
@@ -427,21 +427,21 @@ holds_torn l s h d ended is a some going serving c =
       stored = λ honest _. torn_at s.last (length s.pend) s.history (image_bytes l) h.disk d (subst (λ x. Stored x s.last s.history h.disk) serving (a.stored honest formatted)) c (image_is (targets_of s) s.history s.pend l m) (a.counted serving);
     }
 
-pub commit_turn : (x : Option Ledger) (t : ℕ) (s : State) (said : List Line) (n : ℕ) (k : Kept) (target : Held) (ls : List Line) → k.target.ledger ≡ x → Agrees s said n k → IsTaken s.asked (Order (commands.Commit t)) → Commits x t k.target target ls
-    → IsTurn s said n k (Order (commands.Commit t)) (record k { target = target }) ls
-commit_turn None t s said n k target ls is a taken c =
+pub commit_turn : (calls : Calls) (x : Option Ledger) (t : ℕ) (s : State) (said : List Line) (n : ℕ) (k : Kept) (target : Held) (ls : List Line) → k.target.ledger ≡ x → Agrees s said n k → IsTaken s.asked (Order (commands.Commit t)) → Commits x t k.target target ls
+    → IsTurn calls s said n k (Order (commands.Commit t)) (record k { target = target }) ls
+commit_turn calls None t s said n k target ls is a taken c =
     let e : Entry = Order (commands.Commit t) in
     let stopped : serves (standing_of k.target) ≡ false = not_serving k.target is in
-    subst (λ x. IsTurn s said n k e (record k { target = x }) ls) (sym c.0) (subst (λ x. IsTurn s said n k e k x) (sym c.1)
-    (state_turn e t s said n k a taken refl refl refl tt refl (subst (λ x. CommitLines x t (lines.State t (standing_of k.target) ∷ [])) (sym a.holds.standing) (commit_none (standing_of k.target) t stopped))))
-commit_turn (Some l) t s said n k target ls is a taken (inl (d, c, made, one)) =
+    subst (λ x. IsTurn calls s said n k e (record k { target = x }) ls) (sym c.0) (subst (λ x. IsTurn calls s said n k e k x) (sym c.1)
+    (state_turn calls e t s said n k a taken refl refl refl tt refl (subst (λ x. CommitLines x t (lines.State t (standing_of k.target) ∷ [])) (sym a.holds.standing) (commit_none (standing_of k.target) t stopped))))
+commit_turn calls (Some l) t s said n k target ls is a taken (inl (d, c, made, one)) =
     let e : Entry = Order (commands.Commit t) in
     let serving : s.standing ≡ Serving = a.holds.standing ∙ is_up k.target l is in
     let m = ledger_of k.target l (targets_of s) s.history s.pend is a.holds.ledger in
     let held : Held = serving_on (all_stable l) d in
     let line : List Line = lines.Stable t l.pend ∷ [] in
     let u : State = record (begun s e) { pend = []; last = s.last + length s.pend } in
-    subst (λ x. IsTurn s said n k e (record k { target = x }) ls) (sym made) (subst (λ x. IsTurn s said n k e (record k { target = held }) x) (sym one)
+    subst (λ x. IsTurn calls s said n k e (record k { target = x }) ls) (sym made) (subst (λ x. IsTurn calls s said n k e (record k { target = held }) x) (sym one)
     (record {
       state = u;
       turn = (taken, subst (λ x. CommitLines x t line) (sym serving) (inl (l.pend, refl)), (u, (serving, m.pend, refl), refl));
@@ -454,13 +454,13 @@ commit_turn (Some l) t s said n k target ls is a taken (inl (d, c, made, one)) =
       disk = record { touches = c.touches; cause = λ f. absurd (no_down_in (lines.Stable t l.pend) f.1.0 (λ x. cc) f.1.1); does = tt };
       made = sym (or_none k.target.formatted ∙ a.holds.up (λ x. serving_down (sym serving ∙ x)));
     }))
-commit_turn (Some l) t s said n k target ls is a taken (inr (d, c, made, one)) =
+commit_turn calls (Some l) t s said n k target ls is a taken (inr (d, c, made, one)) =
     let e : Entry = Order (commands.Commit t) in
     let serving : s.standing ≡ Serving = a.holds.standing ∙ is_up k.target l is in
     let held : Held = stopped true d in
     let line : List Line = lines.Down t ∷ [] in
     let u : State = record (begun s e) { standing = Down; pend = [] } in
-    subst (λ x. IsTurn s said n k e (record k { target = x }) ls) (sym made) (subst (λ x. IsTurn s said n k e (record k { target = held }) x) (sym one)
+    subst (λ x. IsTurn calls s said n k e (record k { target = x }) ls) (sym made) (subst (λ x. IsTurn calls s said n k e (record k { target = held }) x) (sym one)
     (record {
       state = u;
       turn = (taken, subst (λ x. CommitLines x t line) (sym serving) (inr refl), (u, refl, refl));
@@ -489,14 +489,14 @@ holds_end s h a = record {
   stored = a.stored;
 }
 
-pub end_turn : (x : Option Ledger) (s : State) (said : List Line) (n : ℕ) (k : Kept) (target : Held) (ls : List Line) → k.target.ledger ≡ x → Agrees s said n k → IsTaken s.asked (Order commands.End) → Ends x k.target target ls
-    → IsTurn s said n k (Order commands.End) (record k { ended = true; target = target }) ls
-end_turn None s said n k target ls is a taken c =
+pub end_turn : (calls : Calls) (x : Option Ledger) (s : State) (said : List Line) (n : ℕ) (k : Kept) (target : Held) (ls : List Line) → k.target.ledger ≡ x → Agrees s said n k → IsTaken s.asked (Order commands.End) → Ends x k.target target ls
+    → IsTurn calls s said n k (Order commands.End) (record k { ended = true; target = target }) ls
+end_turn calls None s said n k target ls is a taken c =
     let e : Entry = Order commands.End in
     let stopped : serves s.standing ≡ false = ap serves a.holds.standing ∙ not_serving k.target is in
     let line : List Line = lines.EndUnclean 0 ∷ [] in
     let u : State = begun s e in
-    subst (λ x. IsTurn s said n k e (record k { ended = true; target = x }) ls) (sym c.0) (subst (λ x. IsTurn s said n k e (record k { ended = true }) x) (sym c.1)
+    subst (λ x. IsTurn calls s said n k e (record k { ended = true; target = x }) ls) (sym c.0) (subst (λ x. IsTurn calls s said n k e (record k { ended = true }) x) (sym c.1)
     (record {
       state = u;
       turn = (taken, end_none s.standing stopped, (u, (stopped, refl), refl));
@@ -505,7 +505,7 @@ end_turn None s said n k target ls is a taken c =
       disk = record { touches = touches_refl k.target.disk; cause = λ f. absurd (no_down_in (lines.EndUnclean 0) f.1.0 (λ x. cc) f.1.1); does = tt };
       made = sym (or_none k.target.formatted);
     }))
-end_turn (Some l) s said n k target ls is a taken (inl (d, c, made, two)) =
+end_turn calls (Some l) s said n k target ls is a taken (inl (d, c, made, two)) =
     let e : Entry = Order commands.End in
     let serving : s.standing ≡ Serving = a.holds.standing ∙ is_up k.target l is in
     let m = ledger_of k.target l (targets_of s) s.history s.pend is a.holds.ledger in
@@ -513,7 +513,7 @@ end_turn (Some l) s said n k target ls is a taken (inl (d, c, made, two)) =
     let both : List Line = lines.Stable 0 l.pend ∷ lines.EndClean ∷ [] in
     let u : State = record (begun s e) { pend = []; last = s.last + length s.pend } in
     let v : State = record u { clean = true } in
-    subst (λ x. IsTurn s said n k e (record k { ended = true; target = x }) ls) (sym made) (subst (λ x. IsTurn s said n k e (record k { ended = true; target = held }) x) (sym two)
+    subst (λ x. IsTurn calls s said n k e (record k { ended = true; target = x }) ls) (sym made) (subst (λ x. IsTurn calls s said n k e (record k { ended = true; target = held }) x) (sym two)
     (record {
       state = v;
       turn = (taken, subst (λ x. EndLines x both) (sym serving) (inl (l.pend, refl)), (u, (serving, m.pend, refl), (v, (serving, refl), refl)));
@@ -531,13 +531,13 @@ end_turn (Some l) s said n k target ls is a taken (inl (d, c, made, two)) =
     other t (inl e) = cc
     other t (inr (inl e)) = cc
     other t (inr (inr m)) = m
-end_turn (Some l) s said n k target ls is a taken (inr (d, c, made, two)) =
+end_turn calls (Some l) s said n k target ls is a taken (inr (d, c, made, two)) =
     let e : Entry = Order commands.End in
     let serving : s.standing ≡ Serving = a.holds.standing ∙ is_up k.target l is in
     let held : Held = stopped true d in
     let both : List Line = lines.Down 0 ∷ lines.EndUnclean 0 ∷ [] in
     let u : State = record (begun s e) { standing = Down; pend = [] } in
-    subst (λ x. IsTurn s said n k e (record k { ended = true; target = x }) ls) (sym made) (subst (λ x. IsTurn s said n k e (record k { ended = true; target = held }) x) (sym two)
+    subst (λ x. IsTurn calls s said n k e (record k { ended = true; target = x }) ls) (sym made) (subst (λ x. IsTurn calls s said n k e (record k { ended = true; target = held }) x) (sym two)
     (record {
       state = u;
       turn = (taken, subst (λ x. EndLines x both) (sym serving) (inr refl), (u, refl, (u, (refl, refl), refl)));

@@ -18,7 +18,7 @@ use Rattle.scenario_text.specs.declared.command.Command.{Command}
 use Rattle.scenario_text.specs.declared.command.Command.TheVariants as commands
 use Rattle.scenario_text.specs.Spelling.{Entry, Skip, Order}
 use Rattle.dne_cli.specs.Image.{head_bytes, item_bytes, image_of, numbers_in}
-use Rattle.dne_cli.specs.Disks.{FailsToFormat, FailsToRead, Faulted, Formatted, FormatsAfterStop, HoldsBadImage, HoldsNothing, HoldsNumbers, ReadsAfterStop, Touches}
+use Rattle.dne_cli.specs.Disks.{Calls, FailsToFormat, FailsToRead, Faulted, Formatted, FormatsAfterStop, HoldsBadImage, HoldsNothing, HoldsNumbers, ReadsAfterStop, Touches}
 
 -- what a target that serves keeps in memory: its tree with the cluster, how many operations it accepted
 -- and their bytes in the image, the greatest number of each client, and what isn't stable yet
@@ -150,39 +150,9 @@ pub record Torn (bytes : List ℕ) (old new : Shown) : Type 0 where
   pub faulted : Faulted old new
   pub either : (s : Saved) → IsSettled old s → OpensAsEither new s (next s bytes)
 
--- a disk that a stop left with one of its images, which was read
-pub record Reopened (old new : Shown) (transno : ℕ) (numbers : List ℕ) : Type 0 where
-  pub touches : Touches old new
-  pub after_stop : ReadsAfterStop (HoldsNumbers transno numbers) old new
-  pub counted : transno ≡ length numbers
-  pub read : IsTrue old.honest → (image : List ℕ) × IsImage old.settled image × ((s : Saved) × (opened image ≡ Some s) × (numbers_in s.bytes ≡ Ok numbers) × IsSettled new s)
-
 -- each image opens as one of those did that the disk had before
 abbrev pub OpensAsBefore : Shown → Shown → Type 0
 OpensAsBefore old new = (image : List ℕ) → IsImage new.settled image → (before : List ℕ) × IsImage old.settled before × (opened image ≡ opened before)
-
--- a disk that couldn't be read for a fault
-pub record Unread (old new : Shown) : Type 0 where
-  pub faulted : Faulted old new
-  pub after_stop : FailsToRead old new
-  pub images : IsTrue old.honest → OpensAsBefore old new
-
--- a disk that was read and holds this: it doesn't open, or opens as what is no image
-pub record Damaged (P : List ℕ → Type 0) (old new : Shown) : Type 0 where
-  pub touches : Touches old new
-  pub after_stop : ReadsAfterStop P old new
-  pub cause : IsTrue old.honest → (image : List ℕ) × IsImage old.settled image × ((opened image ≡ None) ⊎ ((s : Saved) × (place : ℕ) × (opened image ≡ Some s) × (numbers_in s.bytes ≡ Err place)))
-  pub images : IsTrue old.honest → OpensAsBefore old new
-
--- a disk that was formatted again
-pub record Reformatted (old new : Shown) : Type 0 where
-  pub formatted : Formatted old new
-  pub after_stop : FormatsAfterStop old new
-
--- one that couldn't be
-pub record Unformatted (old new : Shown) : Type 0 where
-  pub faulted : Faulted old new
-  pub after_stop : FailsToFormat old new
 
 -- LINES OF THE SCENARIO
 
@@ -214,46 +184,77 @@ Crashes Serving target old new ls = (new ≡ stopped true old.disk) × (ls ≡ l
 Crashes Opened target old new ls = (new ≡ stopped true old.disk) × (ls ≡ lines.Down target ∷ [])
 Crashes Down target old new ls = (new ≡ old) × (ls ≡ lines.State target Down ∷ [])
 
--- a target whose disk was formatted is started again: it comes up, a call fails, or the disk is damaged
-abbrev pub Starts : Shown → ℕ → Held → List Line → Type 0
-Starts disk target new ls =
-    ((d : Shown) × (transno : ℕ) × (numbers : List ℕ) × Reopened disk d transno numbers × (new ≡ opened_on d) × (ls ≡ lines.Up target transno numbers ∷ []))
-    ⊎ (((d : Shown) × Unread disk d × (new ≡ stopped true d) × (ls ≡ lines.Down target ∷ []))
-    ⊎ (((d : Shown) × (gates : ℕ) × Damaged (HoldsNothing gates) disk d × (new ≡ stopped true d) × (ls ≡ lines.DamagedGates target gates ∷ []))
-    ⊎ ((d : Shown) × (place : ℕ) × Damaged (HoldsBadImage place) disk d × (new ≡ stopped true d) × (ls ≡ lines.DamagedImage target place ∷ []))))
-
--- one whose formatting failed is formatted again
-abbrev pub Reformats : Shown → ℕ → Held → List Line → Type 0
-Reformats disk target new ls =
-    ((d : Shown) × Reformatted disk d × (new ≡ opened_on d) × (ls ≡ lines.Up target 0 [] ∷ []))
-    ⊎ ((d : Shown) × Unformatted disk d × (new ≡ stopped false d) × (ls ≡ lines.Down target ∷ []))
-
-abbrev pub Restarts : Standing → Bool → ℕ → Held → Held → List Line → Type 0
-Restarts Serving formatted target old new ls = (new ≡ old) × (ls ≡ lines.State target Serving ∷ [])
-Restarts Opened formatted target old new ls = (new ≡ old) × (ls ≡ lines.State target Opened ∷ [])
-Restarts Down true target old new ls = Starts old.disk target new ls
-Restarts Down false target old new ls = Reformats old.disk target new ls
-
 abbrev pub tree_lines : Option Ledger → List Line
 tree_lines None = lines.TreeState 0 ∷ []
 tree_lines (Some l) = lines.Tree l.tree ∷ []
 
--- what a command makes of a session, and the lines that come of it
-abbrev pub Obeys : Kept → Command → Kept → List Line → Type 0
-Obeys k (commands.Cluster targets) new ls =
-    (target : Held) × Founds k.target.disk targets target ls × (new ≡ record k { cluster = Some targets; target = target })
-Obeys k (commands.Send r) new ls = (new ≡ record k { waiting = k.waiting ++ r ∷ []; used = slice_set k.used r.number true }) × (ls ≡ [])
-Obeys k commands.Settle new ls = (new ≡ record k { waiting = []; target = settled_target k.target k.waiting }) × (ls ≡ settle_lines k.target.ledger k.waiting)
-Obeys k commands.Tree new ls = (new ≡ k) × (ls ≡ tree_lines k.target.ledger)
-Obeys k commands.End new ls = (target : Held) × Ends k.target.ledger k.target target ls × (new ≡ record k { ended = true; target = target })
-Obeys k (commands.Commit t) new ls = (target : Held) × Commits k.target.ledger t k.target target ls × (new ≡ record k { target = target })
-Obeys k (commands.Crash t) new ls = (target : Held) × Crashes (standing_of k.target) t k.target target ls × (new ≡ record k { target = target })
-Obeys k (commands.Restart t) new ls = (target : Held) × Restarts (standing_of k.target) k.target.formatted t k.target target ls × (new ≡ record k { target = target })
-Obeys k (commands.Fuse t after choice) new ls = (new ≡ k) × (ls ≡ [])
+module _ (calls : Calls) where
+  -- a disk that a stop left with one of its images, which was read
+  pub record Reopened (old new : Shown) (transno : ℕ) (numbers : List ℕ) : Type 0 where
+    pub touches : Touches old new
+    pub after_stop : ReadsAfterStop calls (HoldsNumbers transno numbers) old new
+    pub counted : transno ≡ length numbers
+    pub read : IsTrue old.honest → (image : List ℕ) × IsImage old.settled image × ((s : Saved) × (opened image ≡ Some s) × (numbers_in s.bytes ≡ Ok numbers) × IsSettled new s)
 
-abbrev pub Does : Kept → Entry → Kept → List Line → Type 0
-Does k (Skip line) new ls = (new ≡ k) × (ls ≡ [])
-Does k (Order c) new ls = Obeys k c new ls
+  -- a disk that couldn't be read for a fault
+  pub record Unread (old new : Shown) : Type 0 where
+    pub faulted : Faulted old new
+    pub after_stop : FailsToRead calls old new
+    pub images : IsTrue old.honest → OpensAsBefore old new
+
+  -- a disk that was read and holds this: it doesn't open, or opens as what is no image
+  pub record Damaged (P : List ℕ → Type 0) (old new : Shown) : Type 0 where
+    pub touches : Touches old new
+    pub after_stop : ReadsAfterStop calls P old new
+    pub cause : IsTrue old.honest → (image : List ℕ) × IsImage old.settled image × ((opened image ≡ None) ⊎ ((s : Saved) × (place : ℕ) × (opened image ≡ Some s) × (numbers_in s.bytes ≡ Err place)))
+    pub images : IsTrue old.honest → OpensAsBefore old new
+
+  -- a disk that was formatted again
+  pub record Reformatted (old new : Shown) : Type 0 where
+    pub formatted : Formatted old new
+    pub after_stop : FormatsAfterStop calls old new
+
+  -- one that couldn't be
+  pub record Unformatted (old new : Shown) : Type 0 where
+    pub faulted : Faulted old new
+    pub after_stop : FailsToFormat calls old new
+
+  -- a target whose disk was formatted is started again: it comes up, a call fails, or the disk is damaged
+  abbrev pub Starts : Shown → ℕ → Held → List Line → Type 0
+  Starts disk target new ls =
+      ((d : Shown) × (transno : ℕ) × (numbers : List ℕ) × Reopened disk d transno numbers × (new ≡ opened_on d) × (ls ≡ lines.Up target transno numbers ∷ []))
+      ⊎ (((d : Shown) × Unread disk d × (new ≡ stopped true d) × (ls ≡ lines.Down target ∷ []))
+      ⊎ (((d : Shown) × (gates : ℕ) × Damaged (HoldsNothing gates) disk d × (new ≡ stopped true d) × (ls ≡ lines.DamagedGates target gates ∷ []))
+      ⊎ ((d : Shown) × (place : ℕ) × Damaged (HoldsBadImage place) disk d × (new ≡ stopped true d) × (ls ≡ lines.DamagedImage target place ∷ []))))
+
+  -- one whose formatting failed is formatted again
+  abbrev pub Reformats : Shown → ℕ → Held → List Line → Type 0
+  Reformats disk target new ls =
+      ((d : Shown) × Reformatted disk d × (new ≡ opened_on d) × (ls ≡ lines.Up target 0 [] ∷ []))
+      ⊎ ((d : Shown) × Unformatted disk d × (new ≡ stopped false d) × (ls ≡ lines.Down target ∷ []))
+
+  abbrev pub Restarts : Standing → Bool → ℕ → Held → Held → List Line → Type 0
+  Restarts Serving formatted target old new ls = (new ≡ old) × (ls ≡ lines.State target Serving ∷ [])
+  Restarts Opened formatted target old new ls = (new ≡ old) × (ls ≡ lines.State target Opened ∷ [])
+  Restarts Down true target old new ls = Starts old.disk target new ls
+  Restarts Down false target old new ls = Reformats old.disk target new ls
+
+  -- what a command makes of a session, and the lines that come of it
+  abbrev pub Obeys : Kept → Command → Kept → List Line → Type 0
+  Obeys k (commands.Cluster targets) new ls =
+      (target : Held) × Founds k.target.disk targets target ls × (new ≡ record k { cluster = Some targets; target = target })
+  Obeys k (commands.Send r) new ls = (new ≡ record k { waiting = k.waiting ++ r ∷ []; used = slice_set k.used r.number true }) × (ls ≡ [])
+  Obeys k commands.Settle new ls = (new ≡ record k { waiting = []; target = settled_target k.target k.waiting }) × (ls ≡ settle_lines k.target.ledger k.waiting)
+  Obeys k commands.Tree new ls = (new ≡ k) × (ls ≡ tree_lines k.target.ledger)
+  Obeys k commands.End new ls = (target : Held) × Ends k.target.ledger k.target target ls × (new ≡ record k { ended = true; target = target })
+  Obeys k (commands.Commit t) new ls = (target : Held) × Commits k.target.ledger t k.target target ls × (new ≡ record k { target = target })
+  Obeys k (commands.Crash t) new ls = (target : Held) × Crashes (standing_of k.target) t k.target target ls × (new ≡ record k { target = target })
+  Obeys k (commands.Restart t) new ls = (target : Held) × Restarts (standing_of k.target) k.target.formatted t k.target target ls × (new ≡ record k { target = target })
+  Obeys k (commands.Fuse t after choice) new ls = calls.armed after choice k.target.disk × (new ≡ k) × (ls ≡ [])
+
+  abbrev pub Does : Kept → Entry → Kept → List Line → Type 0
+  Does k (Skip line) new ls = (new ≡ k) × (ls ≡ [])
+  Does k (Order c) new ls = Obeys k c new ls
 
 -- CODES
 

@@ -16,7 +16,7 @@ use Rattle.scenario_text.specs.declared.line.Standing.TheVariants.{Serving, Open
 use Rattle.dne_cli.specs.Image.{items_bytes, image_of}
 use Rattle.dne_cli.specs.Kept.{Kept, Held, Ledger, Does, is_used, seat_of, standing_of}
 use Rattle.line_player.specs.Played.{Rules, rules_of}
-use Rattle.dne_cli.specs.Disks.{Touches, made_all}
+use Rattle.dne_cli.specs.Disks.{Calls, Touches, made_all}
 use Rattle.dne_cli.specs.Transcript.{Place}
 
 -- the greatest number of a client in a history, or 0
@@ -101,8 +101,8 @@ pub record Agrees (s : State) (said : List Line) (lines : ℕ) (k : Kept) : Type
   pub holds : HoldsSame s k.target
 
 -- a session has come to this place
-pub record Reached (first : Shown) (lines : List (List ℕ)) (text : List ℕ) (k : Kept) : Type 0 where
-  pub place : Place first k.target.disk lines text
+pub record Reached (calls : Calls) (first : Shown) (lines : List (List ℕ)) (text : List ℕ) (k : Kept) : Type 0 where
+  pub place : Place calls first k.target.disk lines text
   pub made : made_all false place.groups ≡ k.target.formatted
   pub agrees : Agrees place.state (lines_of place.groups) (length lines) k
 
@@ -116,16 +116,16 @@ abbrev pub Stands : Kept → Entry → Type 0
 Stands k e = IsSpelled k.cluster e × MayStand k.cluster k.ended (is_used k.used) e × IsPlayedEntry e
 
 -- the line stands, and this is what comes of it
-abbrev pub Takes : Kept → Kept → List ℕ → List ℕ → Type 0
-Takes old new line more = (e : Entry) × (ls : List Line) × Stands old e × (line ≡ line_of e) × Does old e new ls × (more ≡ texts ls)
+abbrev pub Takes : Calls → Kept → Kept → List ℕ → List ℕ → Type 0
+Takes calls old new line more = (e : Entry) × (ls : List Line) × Stands old e × (line ≡ line_of e) × Does calls old e new ls × (more ≡ texts ls)
 
 -- nothing that may stand on the line is spelled so
 abbrev pub IsBad : Kept → List ℕ → Type 0
 IsBad k line = (e : Entry) → Stands k e → line ≢ line_of e
 
 -- what the rules of a session are
-abbrev pub session_takes : Kept → List ℕ → Kept → List ℕ → Type 0
-session_takes old line new more = Takes old new line more × Touches old.target.disk new.target.disk
+abbrev pub session_takes : Calls → Kept → List ℕ → Kept → List ℕ → Type 0
+session_takes calls old line new more = Takes calls old new line more × Touches old.target.disk new.target.disk
 
 abbrev pub session_leaves : Kept → Kept → Type 0
 session_leaves old new = Touches old.target.disk new.target.disk
@@ -133,5 +133,5 @@ session_leaves old new = Touches old.target.disk new.target.disk
 abbrev pub session_ended : Kept → Bool
 session_ended k = k.ended
 
-abbrev pub session_rules : Kept → Kept → Rules
-session_rules old new = rules_of session_takes IsBad session_leaves session_ended old new
+abbrev pub session_rules : Calls → Kept → Kept → Rules
+session_rules calls old new = rules_of (session_takes calls) IsBad session_leaves session_ended old new

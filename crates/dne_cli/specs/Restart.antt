@@ -1,7 +1,7 @@
 -- What starting a target from its disk does, and what a target is seen as.
 use Rattle.std.specs.Prelude.{◌≡◌, ℕ, List, Option, Result, Err}
 use Rattle.outside.specs.Disk.{Fuse, Shown}
-use Rattle.dne_cli.specs.Disks.{Faulted, HoldsBadImage, HoldsNothing, Touches}
+use Rattle.dne_cli.specs.Disks.{Calls, Faulted, HoldsBadImage, HoldsNothing, Touches}
 use Rattle.dne_cli.specs.Kept.{Held, Damaged, Unformatted, Unread, stopped, opened_on, serving_on}
 use Rattle.dne_cli.specs.declared.image.ImageFault.{ImageFault}
 use Rattle.dne_cli.specs.declared.image.ImageFault.TheVariants as image_fault
@@ -18,20 +18,20 @@ BadAt (image_fault.BadImage place) read = read ≡ Err place
 BadAt image_fault.Memory read = Unit {0}
 
 -- each answer other than Ok of a start, with the disk that it gives back
-abbrev pub FailsToReopen : {D : Type 0} → (D → Shown) → Shown → ReopenFault D → Type 0
-FailsToReopen shown old (reopen_fault.Disk disk) = Unread old (shown disk)
-FailsToReopen shown old (reopen_fault.Gates disk gates) = Damaged (HoldsNothing gates) old (shown disk)
-FailsToReopen shown old (reopen_fault.Image disk place) = Damaged (HoldsBadImage place) old (shown disk)
-FailsToReopen shown old (reopen_fault.Memory disk) = Touches old (shown disk)
+abbrev pub FailsToReopen : Calls → {D : Type 0} → (D → Shown) → Shown → ReopenFault D → Type 0
+FailsToReopen calls shown old (reopen_fault.Disk disk) = Unread calls old (shown disk)
+FailsToReopen calls shown old (reopen_fault.Gates disk gates) = Damaged calls (HoldsNothing gates) old (shown disk)
+FailsToReopen calls shown old (reopen_fault.Image disk place) = Damaged calls (HoldsBadImage place) old (shown disk)
+FailsToReopen calls shown old (reopen_fault.Memory disk) = Touches old (shown disk)
 
 -- each answer other than Ok of a formatting, and of one after a stop
 abbrev pub FailsToMake : {D : Type 0} → (D → Shown) → Shown → MakeFault D → Type 0
 FailsToMake shown old (make_fault.Disk disk) = Faulted old (shown disk)
 FailsToMake shown old (make_fault.Memory disk) = Touches old (shown disk)
 
-abbrev pub FailsToRemake : {D : Type 0} → (D → Shown) → Shown → MakeFault D → Type 0
-FailsToRemake shown old (make_fault.Disk disk) = Unformatted old (shown disk)
-FailsToRemake shown old (make_fault.Memory disk) = Touches old (shown disk)
+abbrev pub FailsToRemake : Calls → {D : Type 0} → (D → Shown) → Shown → MakeFault D → Type 0
+FailsToRemake calls shown old (make_fault.Disk disk) = Unformatted calls old (shown disk)
+FailsToRemake calls shown old (make_fault.Memory disk) = Touches old (shown disk)
 
 -- a target as contracts see it
 abbrev pub held_of : {D : Type 0} → (D → Shown) → Target D → Held

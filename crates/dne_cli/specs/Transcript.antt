@@ -10,7 +10,7 @@ use Rattle.scenario_text.specs.declared.line.Standing.TheVariants.{Down}
 use Rattle.line_player.specs.Played.{Played, Rules}
 use Rattle.dne_cli.specs.Image.{Holds}
 use Rattle.dne_cli.specs.Share.{HoldsShare}
-use Rattle.dne_cli.specs.Disks.{Moves, Touches}
+use Rattle.dne_cli.specs.Disks.{Calls, Moves, Touches}
 
 -- THE DISK
 
@@ -36,29 +36,29 @@ lines_in gs = map (λ g. line_of g.entry) gs
 -- A place: the lines are the entries of a run of the plain machine; the text is that of the run's lines, and
 -- the run served what it owes. The disk came of that of the start by what each line does to it, and keeps
 -- the run.
-pub record Place (first disk : Shown) (lines : List (List ℕ)) (text : List ℕ) : Type 0 where
+pub record Place (calls : Calls) (first disk : Shown) (lines : List (List ℕ)) (text : List ℕ) : Type 0 where
   pub groups : List Group
   pub state : State
   pub spelled : lines ≡ lines_in groups
   pub run : Run (start first.honest) groups state
   pub served : AllServed nothing_asked [] groups
   pub written : text ≡ transcript groups
-  pub moves : Moves false first groups disk
+  pub moves : Moves calls false first groups disk
   pub honest : disk.honest ≡ first.honest
   pub kept : KeepsRun state disk
 
 -- what a player over a disk goes by, from the disk of the start to this one
-abbrev pub play_rules : Shown → Shown → Rules
-play_rules first disk = record {
-  ran = λ lines text. Place first disk lines text;
-  ran_before = λ lines text. (held : Shown) × Touches held disk × Place first held lines text;
-  refuses = λ lines text line. (p : Place first disk lines text) × IsRefused p.state.asked line;
-  ends = λ over lines text. (p : Place first disk lines text) × (p.state.asked.ended ≡ over);
+abbrev pub play_rules : Calls → Shown → Shown → Rules
+play_rules calls first disk = record {
+  ran = λ lines text. Place calls first disk lines text;
+  ran_before = λ lines text. (held : Shown) × Touches held disk × Place calls first held lines text;
+  refuses = λ lines text line. (p : Place calls first disk lines text) × IsRefused p.state.asked line;
+  ends = λ over lines text. (p : Place calls first disk lines text) × (p.state.asked.ended ≡ over);
 }
 
 -- what was written, by the status, over the bytes that were read; AtEnd says that the input has nothing left
-abbrev pub Outcome : Type 0 → Shown → Shown → Status → List ℕ → List ℕ → Type 0
-Outcome AtEnd first disk status read text = Played (play_rules first disk) AtEnd status read text
+abbrev pub Outcome : Calls → Type 0 → Shown → Shown → Status → List ℕ → List ℕ → Type 0
+Outcome calls AtEnd first disk status read text = Played (play_rules calls first disk) AtEnd status read text
 
 -- A scenario in the grammar and inside the limits, as far as it is played: what is taken on one line after
 -- another, the last of them `end`.

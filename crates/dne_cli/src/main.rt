@@ -17,8 +17,6 @@ mod target;
 mod tests;
 mod top;
 mod turns;
-#[cfg(test)]
-mod word_tests;
 
 use outside::{MemoryDisk, Plant, StreamSink, StreamSource};
 use std::alloc::{AllocError as Memory, Global};

@@ -4,7 +4,7 @@ ghost use Rattle.scenario_text.specs.Machine.{MayCome};
 ghost use Rattle.scenario_text.specs.LineText.{texts};
 ghost use Rattle.scenario_text.specs.declared.command.Command.{Command};
 ghost use Rattle.scenario_text.specs.declared.line.Line.{Line};
-ghost use Rattle.dne_cli.specs.Disks.{Touches};
+ghost use Rattle.dne_cli.specs.Disks.{Touches, calls_of};
 ghost use Rattle.dne_cli.specs.Kept.{Does, is_used, no_flags, nothing_kept, Obeys, tree_lines, turned_away};
 ghost use Rattle.dne_cli.specs.Reached.{IsBad, Stands, session_ended, session_leaves, session_takes};
 
@@ -114,7 +114,7 @@ impl<D: Plant> Session<D> {
 
     /// Makes the cluster, with its target.
     fn found(&mut self, cluster: Cluster, out: &mut Bytes) -> Result<(), Memory>
-        ensures does { OnOk result ((ls : List Line) × Obeys self.old (Command.Cluster cluster) self.new ls × (out.new ≡ out.old ++ texts ls)) }
+        ensures does { OnOk result ((ls : List Line) × Obeys (calls_of D.cycled D.armed) self.old (Command.Cluster cluster) self.new ls × (out.new ≡ out.old ++ texts ls)) }
         ensures touches { Touches self.old.target.disk self.new.target.disk }
     {
         let ledger = Ledger::new(self.alloc, cluster)?;
@@ -133,7 +133,7 @@ impl<D: Plant> Session<D> {
     fn send(&mut self, request: Request) -> Result<(), Memory>
         requires number { request.number ≤ 65536 }
         requires free { is_used self.old.used request.number ≡ false }
-        ensures does { OnOk result (Obeys self.old (Command.Send request) self.new []) }
+        ensures does { OnOk result (Obeys (calls_of D.cycled D.armed) self.old (Command.Send request) self.new []) }
         ensures touches { Touches self.old.target.disk self.new.target.disk }
     {
         let number = request.number as usize;
@@ -144,7 +144,7 @@ impl<D: Plant> Session<D> {
 
     /// Delivers the requests that wait, in their order.
     fn settle(&mut self, out: &mut Bytes) -> Result<(), Memory>
-        ensures does { OnOk result ((ls : List Line) × Obeys self.old Command.Settle self.new ls × (out.new ≡ out.old ++ texts ls)) }
+        ensures does { OnOk result ((ls : List Line) × Obeys (calls_of D.cycled D.armed) self.old Command.Settle self.new ls × (out.new ≡ out.old ++ texts ls)) }
         ensures touches { Touches self.old.target.disk self.new.target.disk }
     {
         let requests = mem::replace(&mut self.waiting, Vec::new(self.alloc));
@@ -166,7 +166,7 @@ impl<D: Plant> Session<D> {
 
     /// Ends the scenario.
     fn end(&mut self, out: &mut Bytes) -> Result<(), Memory>
-        ensures does { OnOk result ((ls : List Line) × Obeys self.old Command.End self.new ls × (out.new ≡ out.old ++ texts ls)) }
+        ensures does { OnOk result ((ls : List Line) × Obeys (calls_of D.cycled D.armed) self.old Command.End self.new ls × (out.new ≡ out.old ++ texts ls)) }
         ensures touches { Touches self.old.target.disk self.new.target.disk }
     {
         self.ended = true;
@@ -182,7 +182,7 @@ impl<D: Plant> Session<D> {
 
     /// Commits the target.
     fn commit(&mut self, number: u8, out: &mut Bytes) -> Result<(), Memory>
-        ensures does { OnOk result ((ls : List Line) × Obeys self.old (Command.Commit number) self.new ls × (out.new ≡ out.old ++ texts ls)) }
+        ensures does { OnOk result ((ls : List Line) × Obeys (calls_of D.cycled D.armed) self.old (Command.Commit number) self.new ls × (out.new ≡ out.old ++ texts ls)) }
         ensures touches { Touches self.old.target.disk self.new.target.disk }
     {
         match self.target.take() {
@@ -197,7 +197,7 @@ impl<D: Plant> Session<D> {
 
     /// Stops the target.
     fn crash(&mut self, number: u8, out: &mut Bytes) -> Result<(), Memory>
-        ensures does { OnOk result ((ls : List Line) × Obeys self.old (Command.Crash number) self.new ls × (out.new ≡ out.old ++ texts ls)) }
+        ensures does { OnOk result ((ls : List Line) × Obeys (calls_of D.cycled D.armed) self.old (Command.Crash number) self.new ls × (out.new ≡ out.old ++ texts ls)) }
         ensures touches { Touches self.old.target.disk self.new.target.disk }
     {
         match self.target.take() {
@@ -212,7 +212,7 @@ impl<D: Plant> Session<D> {
 
     /// Starts the target again.
     fn restart(&mut self, number: u8, out: &mut Bytes) -> Result<(), Memory>
-        ensures does { OnOk result ((ls : List Line) × Obeys self.old (Command.Restart number) self.new ls × (out.new ≡ out.old ++ texts ls)) }
+        ensures does { OnOk result ((ls : List Line) × Obeys (calls_of D.cycled D.armed) self.old (Command.Restart number) self.new ls × (out.new ≡ out.old ++ texts ls)) }
         ensures touches { Touches self.old.target.disk self.new.target.disk }
     {
         match self.target.take() {
@@ -227,10 +227,12 @@ impl<D: Plant> Session<D> {
 
     /// Arms the target's disk.
     fn fuse(&mut self, after: u32, choice: u8)
-        ensures { self.new ≡ self.old }
+        ensures same { self.new ≡ self.old }
+        ensures armed { D.armed after choice self.old.target.disk }
     {
-        if let Some(target) = &mut self.target {
-            target.arm(after, choice);
+        match &mut self.target {
+            Some(target) => target.arm(after, choice),
+            None => unreachable!(),
         }
     }
 
@@ -238,7 +240,7 @@ impl<D: Plant> Session<D> {
     fn obey(&mut self, command: Command, out: &mut Bytes) -> Result<(), Memory>
         requires taken { IsCommand self.old.cluster command }
         requires comes { MayCome self.old.cluster self.old.ended (is_used self.old.used) command }
-        ensures does { OnOk result ((ls : List Line) × Obeys self.old command self.new ls × (out.new ≡ out.old ++ texts ls)) }
+        ensures does { OnOk result ((ls : List Line) × Obeys (calls_of D.cycled D.armed) self.old command self.new ls × (out.new ≡ out.old ++ texts ls)) }
         ensures touches { Touches self.old.target.disk self.new.target.disk }
     {
         match command {
@@ -261,7 +263,7 @@ impl<D: Plant> Session<D> {
     /// session can only give its disk back.
     fn run_line(&mut self, line: &[u8], out: &mut Bytes) -> Result<(), TextFault>
         ensures ok { OnOk result ((e : Entry) × (ls : List Line) × Stands self.old e × (line.now ≡ line_of e)
-            × Does self.old e self.new ls × (out.new ≡ out.old ++ texts ls)) }
+            × Does (calls_of D.cycled D.armed) self.old e self.new ls × (out.new ≡ out.old ++ texts ls)) }
         ensures refused { result ≡ Err TextFault.NotYet → IsBad self.old line.now }
         ensures same { result ≡ Err TextFault.NotYet → self.new ≡ self.old }
         ensures touches { Touches self.old.target.disk self.new.target.disk }
@@ -299,7 +301,7 @@ impl<D: Plant> Session<D> {
 }
 
 impl<D: Plant> LineRunner for Session<D> {
-    ghost takes = { session_takes };
+    ghost takes = { session_takes (calls_of D.cycled D.armed) };
 
     ghost refuses = { IsBad };
 

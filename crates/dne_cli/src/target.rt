@@ -2,7 +2,7 @@
 ghost use Rattle.std.specs.Prelude.{◌≡◌, ◌≤◌, ◌+◌, [], length, false, true, IfOk, IfErr, OnSome, Some, None, is_some};
 ghost use Rattle.outside.specs.Disk.{Fuse};
 ghost use Rattle.dne_cli.specs.Image.{image_of};
-ghost use Rattle.dne_cli.specs.Disks.{Formatted};
+ghost use Rattle.dne_cli.specs.Disks.{Formatted, calls_of};
 ghost use Rattle.dne_cli.specs.Kept.{all_stable, Committed, image_bytes, Reformatted, Reopened, standing_of, Torn};
 ghost use Rattle.dne_cli.specs.Restart.{FailsToMake, FailsToRemake, FailsToReopen, fuse_of, held_of};
 
@@ -76,6 +76,7 @@ impl<D: Plant> Target<D> {
     /// Arms the disk, where it has a fuse, and changes nothing else.
     pub fn arm(&mut self, after: u32, choice: u8)
         ensures held { held_of D.shown self.new ≡ held_of D.shown self.old }
+        ensures armed { D.armed after choice (held_of D.shown self.old).disk }
         ensures set { OnSome (fuse_of D.fuse self.old) (fuse_of D.fuse self.new ≡ Some (record { left = Some after; choice = choice })) }
         ensures none { fuse_of D.fuse self.old ≡ None → fuse_of D.fuse self.new ≡ None }
     {
@@ -141,8 +142,8 @@ pub fn commit<D: Plant>(served: Served<D>) -> Result<(Served<D>, Numbers), D>
 /// Starts from a disk that was formatted: stops what it was doing, opens it, and reads the numbers that
 /// its image holds.
 pub fn reopen<D: Plant>(alloc: Global, disk: D) -> Result<(Store<D>, Numbers), ReopenFault<D>>
-    ensures ok { IfOk result (λ p. Reopened (D.shown disk) (D.shown p.0.disk) (length p.1) p.1) }
-    ensures err { IfErr result (λ e. FailsToReopen D.shown (D.shown disk) e) }
+    ensures ok { IfOk result (λ p. Reopened (calls_of D.cycled D.armed) (D.shown disk) (D.shown p.0.disk) (length p.1) p.1) }
+    ensures err { IfErr result (λ e. FailsToReopen (calls_of D.cycled D.armed) D.shown (D.shown disk) e) }
 {
     let mut disk = disk;
     if disk.power_cycle().is_err() {
@@ -167,8 +168,8 @@ pub fn reformat<D: Plant>(
     image: &[u8],
 ) -> Result<Store<D>, MakeFault<D>>
     requires { image.now ≡ image_of [] }
-    ensures ok { IfOk result (λ s. Reformatted (D.shown disk) (D.shown s.disk)) }
-    ensures err { IfErr result (λ e. FailsToRemake D.shown (D.shown disk) e) }
+    ensures ok { IfOk result (λ s. Reformatted (calls_of D.cycled D.armed) (D.shown disk) (D.shown s.disk)) }
+    ensures err { IfErr result (λ e. FailsToRemake (calls_of D.cycled D.armed) D.shown (D.shown disk) e) }
 {
     let mut disk = disk;
     if disk.power_cycle().is_err() {

@@ -3,7 +3,7 @@ ghost use Rattle.std.specs.Io.KnownBytes.{Appends, Consumes, IsAtEnd};
 ghost use Rattle.outside.specs.Causes.{Rose};
 ghost use Rattle.outside.specs.Disk.{Shown};
 ghost use Rattle.line_player.specs.Played.{StopsNear};
-ghost use Rattle.dne_cli.specs.Disks.{Touches};
+ghost use Rattle.dne_cli.specs.Disks.{Touches, calls_of};
 ghost use Rattle.dne_cli.specs.Transcript.{Outcome, IsScenario};
 ghost use Rattle.dne_cli.specs.Words.{IsPlay, IsModel, IsDecodeRequest, IsDecodeRecord, IsDecodeLog, IsOther, Answers, all_bytes};
 ghost use Rattle.model_mode.specs.Outcome.{Outcome as RunsPlainly, IsScenario as IsPlainScenario};
@@ -31,7 +31,7 @@ fn play<I: Source, O: Sink, D: Plant>(
     ensures touches { Touches (D.shown disk) (D.shown result.1) }
     ensures outcome { (read : List ℕ) × (more : List ℕ) × Consumes (I.left input.old) (I.left input.new) read
         × Appends (O.written output.old) (O.written output.new) more
-        × Outcome (IsAtEnd (I.left input.new)) (D.shown disk) (D.shown result.1) result.0 read more }
+        × Outcome (calls_of D.cycled D.armed) (IsAtEnd (I.left input.new)) (D.shown disk) (D.shown result.1) result.0 read more }
     ensures source { result.0 ≡ Status.Source → Rose (I.source_faults input.old) (I.source_faults input.new) }
     ensures sink { result.0 ≡ Status.Sink → Rose (O.sink_faults output.old) (O.sink_faults output.new) }
 {
@@ -55,7 +55,7 @@ fn play_first<I: Source, O: Sink, D: Plant>(
         × Touches (D.shown old) (D.shown new)
         × ((read : List ℕ) × (more : List ℕ) × Consumes (I.left input.old) (I.left input.new) read
         × Appends (O.written output.old) (O.written output.new) more
-        × Outcome (IsAtEnd (I.left input.new)) (D.shown old) (D.shown new) result read more) }
+        × Outcome (calls_of D.cycled D.armed) (IsAtEnd (I.left input.new)) (D.shown old) (D.shown new) result read more) }
     ensures source { result ≡ Status.Source → Rose (I.source_faults input.old) (I.source_faults input.new) }
     ensures sink { result ≡ Status.Sink → Rose (O.sink_faults output.old) (O.sink_faults output.new) }
 {
@@ -85,7 +85,7 @@ pub fn dne_main<I: Source, O: Sink, D: Plant>(
         × Touches (D.shown old) (D.shown new)
         × ((status : Status) × (result ≡ code_of status) × (read : List ℕ) × (more : List ℕ)
         × Consumes (I.left input.old) (I.left input.new) read × Appends (O.written output.old) (O.written output.new) more
-        × Outcome (IsAtEnd (I.left input.new)) (D.shown old) (D.shown new) status read more) }
+        × Outcome (calls_of D.cycled D.armed) (IsAtEnd (I.left input.new)) (D.shown old) (D.shown new) status read more) }
     // A scenario in the grammar is played to its end, unless memory runs out or the input or output fails.
     ensures complete { IsPlay words.now → (bytes : List ℕ) → I.left input.old ≡ Some bytes → IsScenario bytes
         → ¬ Rose (I.source_faults input.old) (I.source_faults input.new)

@@ -4,7 +4,7 @@ ghost use Rattle.std.specs.Prelude.{◌≡◌, ◌≤◌, ◌++◌, ◌∷◌, [
 ghost use Rattle.scenario_text.specs.LineText.{texts};
 ghost use Rattle.scenario_text.specs.declared.line.Line.{Line};
 ghost use Rattle.dne_cli.specs.Image.{image_of};
-ghost use Rattle.dne_cli.specs.Disks.{Touches};
+ghost use Rattle.dne_cli.specs.Disks.{Touches, calls_of};
 ghost use Rattle.dne_cli.specs.Kept.{Commits, Crashes, Ends, Founds, image_bytes, Reformats, Restarts, standing_of, Starts, stopped, empty_ledger};
 ghost use Rattle.dne_cli.specs.Restart.{held_of};
 ghost use Rattle.dne_cli.specs.Session.{count_of};
@@ -101,7 +101,7 @@ pub fn restart_target<D: Plant>(
     target: Target<D>,
     out: &mut Bytes,
 ) -> (Target<D>, Result<(), Memory>)
-    ensures lines { OnOk result.1 ((ls : List Line) × Restarts (standing_of (held_of D.shown target)) (held_of D.shown target).formatted number (held_of D.shown target) (held_of D.shown result.0) ls × (out.new ≡ out.old ++ texts ls)) }
+    ensures lines { OnOk result.1 ((ls : List Line) × Restarts (calls_of D.cycled D.armed) (standing_of (held_of D.shown target)) (held_of D.shown target).formatted number (held_of D.shown target) (held_of D.shown result.0) ls × (out.new ≡ out.old ++ texts ls)) }
     ensures touches { Touches (held_of D.shown target).disk (held_of D.shown result.0).disk }
     ensures count { count_of (held_of D.shown result.0) ≤ count_of (held_of D.shown target) }
 {
@@ -126,7 +126,7 @@ fn start<D: Plant>(
     disk: D,
     out: &mut Bytes,
 ) -> (Target<D>, Result<(), Memory>)
-    ensures lines { OnOk result.1 ((ls : List Line) × Starts (D.shown disk) number (held_of D.shown result.0) ls × (out.new ≡ out.old ++ texts ls)) }
+    ensures lines { OnOk result.1 ((ls : List Line) × Starts (calls_of D.cycled D.armed) (D.shown disk) number (held_of D.shown result.0) ls × (out.new ≡ out.old ++ texts ls)) }
     ensures touches { Touches (D.shown disk) (held_of D.shown result.0).disk }
     ensures count { count_of (held_of D.shown result.0) ≡ 0 }
 {
@@ -158,7 +158,7 @@ fn restore<D: Plant>(
     disk: D,
     out: &mut Bytes,
 ) -> (Target<D>, Result<(), Memory>)
-    ensures lines { OnOk result.1 ((ls : List Line) × Reformats (D.shown disk) number (held_of D.shown result.0) ls × (out.new ≡ out.old ++ texts ls)) }
+    ensures lines { OnOk result.1 ((ls : List Line) × Reformats (calls_of D.cycled D.armed) (D.shown disk) number (held_of D.shown result.0) ls × (out.new ≡ out.old ++ texts ls)) }
     ensures touches { Touches (D.shown disk) (held_of D.shown result.0).disk }
     ensures count { count_of (held_of D.shown result.0) ≡ 0 }
 {

@@ -3,6 +3,7 @@ use Rattle.std.proofs.Common.{◌≡◌, ◌++◌, [], inl, inr, List, ℕ, refl
 use Rattle.scenario_text.specs.LineText.{up_text}
 use Rattle.scenario_text.specs.declared.line.Line.TheVariants as lines
 use Rattle.dne_cli.specs.Kept.{Reformats, opened_on}
+use Rattle.dne_cli.specs.Disks.{calls_of}
 use Rattle.dne_cli.specs.Restart.{held_of}
 use Rattle.dne_cli.proofs.Printed.{printed}
 use Rattle.dne_cli.proofs.turns.restore.Goals as goal
@@ -13,7 +14,7 @@ returns-in-Ok-reformat-clause-lines g c =
     let new = g.D.Disk.shown c.in-Ok-reformat.store.disk in
     let out = c.args.out.now in
     let printed_out = c.print_up-in-Ok-reformat.new.out in
-    printed c.print_up-in-Ok-reformat.result out printed_out (lines.Up c.args.number 0 []) (λ ls. Reformats disk c.args.number (opened_on new) ls)
+    printed c.print_up-in-Ok-reformat.result out printed_out (lines.Up c.args.number 0 []) (λ ls. Reformats (calls_of g.D.Disk.cycled g.D.Plant.armed) disk c.args.number (opened_on new) ls)
     (subst (λ (l : List ℕ). OnOk c.print_up-in-Ok-reformat.result (printed_out ≡ out ++ up_text c.args.number 0 l)) c.new-in-Ok-reformat.ensures c.print_up-in-Ok-reformat.ensures.ok)
     (inl (new, c.in-Ok-reformat.ensures.ok, refl, refl))
 
@@ -21,6 +22,6 @@ pub returns-clause-lines : goal.returns-clause-lines
 returns-clause-lines g c =
     let disk = g.D.Disk.shown c.args.disk in
     let new = held_of g.D.Disk.shown c.halted-in-Err-reformat.result in
-    printed c.print_down.result c.args.out.now c.print_down.new.out (lines.Down c.args.number) (λ ls. Reformats disk c.args.number new ls)
+    printed c.print_down.result c.args.out.now c.print_down.new.out (lines.Down c.args.number) (λ ls. Reformats (calls_of g.D.Disk.cycled g.D.Plant.armed) disk c.args.number new ls)
     c.print_down.ensures.ok
     (inr (g.D.Disk.shown c.in-Err-reformat.disk, c.in-Err-reformat.ensures.err, c.halted-in-Err-reformat.ensures, refl))

@@ -1,12 +1,13 @@
 use Rattle.std.proofs.Common.{rules, Option, ℕ, ap, subst}
 use Rattle.scenario_text.specs.Spelling.{IsCommand, IsPlayed, IsSkipped, Order}
 use Rattle.scenario_text.specs.Machine.{MayCome}
+use Rattle.dne_cli.specs.Disks.{calls_of}
 use Rattle.dne_cli.specs.Kept.{Kept, is_used}
 use Rattle.dne_cli.proofs.Sessions.{barred_bad, skipped_ok, unplayed_bad}
 use Rattle.dne_cli.proofs.session.Session.run_line.Goals as goal
 
 pub returns-then-is_skipped-clause-ok : goal.returns-then-is_skipped-clause-ok
-returns-then-is_skipped-clause-ok g c = skipped_ok c.skip.result c.args.self.now c.args.line.now c.args.out.now (c.is_skipped.ensures.0 c.if-is_skipped.true) c.skip.ensures.ok
+returns-then-is_skipped-clause-ok g c = skipped_ok (calls_of g.D.Disk.cycled g.D.Plant.armed) c.skip.result c.args.self.now c.args.line.now c.args.out.now (c.is_skipped.ensures.0 c.if-is_skipped.true) c.skip.ensures.ok
 
 pub returns-then-not-is_played-clause-refused : goal.returns-then-not-is_played-clause-refused
 returns-then-not-is_played-clause-refused g c = λ _.

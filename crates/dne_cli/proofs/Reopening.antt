@@ -14,15 +14,7 @@ use Rattle.dne_cli.specs.Kept.{Damaged, OpensAsBefore, Reformatted, Reopened, Un
 use Rattle.dne_cli.specs.Restart.{FailsToMake, FailsToRemake}
 use Rattle.dne_cli.specs.declared.target.MakeFault.{MakeFault}
 use Rattle.dne_cli.specs.declared.target.MakeFault.TheVariants as make_fault
-use Rattle.dne_cli.proofs.Reading.{at_no_error}
 use Rattle.dne_cli.proofs.Touching.{touches_trans}
-
-at_error : {T E : Type 0} (result : Result T E) (P : Type 0) → is_err result ≡ true → OnErr result P → P
-at_error (Ok x) P e h = absurd (false_true e)
-  where
-    false_true : false ≡ true → ⊥
-    false_true e = cc
-at_error (Err x) P e h = h
 
 -- a disk that was read alone opens as before
 pub keeps_reopens : (old new : Shown) → Keeps old new → Reopens old new
@@ -33,24 +25,6 @@ keeps_reopens old new keeps = record {
 }
 
 module _ (calls : Calls) where
-  pub cycled : {T E : Type 0} (result : Result T E) (old mid : Shown) → is_err result ≡ false → Stays old mid → HasCause old.faults mid.faults result → (IsTrue old.honest → Cycles result old mid) → (IsTrue old.honest → mid.failed ≡ is_err result) → calls.cycled old mid → Cycled calls old mid
-  cycled result old mid none stays cause cycles flag said = record {
-    touches = record { stays = stays; later = cause.later };
-    image = λ honest. at_no_error result none (cycles honest).image;
-    settled = λ honest. at_no_error result none (cycles honest).settled;
-    works = λ honest. flag honest ∙ none;
-    cycled = said;
-  }
-
-  -- it couldn't be stopped and started
-  pub stays_off : {T E : Type 0} (result : Result T E) (old new : Shown) → is_err result ≡ true → Stays old new → HasCause old.faults new.faults result → (IsTrue old.honest → Cycles result old new) → calls.cycled old new → StaysOff calls old new
-  stays_off result old new failed stays cause cycles said = record {
-    faulted = record { touches = record { stays = stays; later = cause.later }; rose = at_error result (Rose old.faults new.faults) failed cause.failed };
-    content = λ honest. at_error result (new.content ≡ old.content) failed (cycles honest).err_content;
-    settled = λ honest. at_error result (new.settled ≡ old.settled) failed (cycles honest).err_settled;
-    cycled = said;
-  }
-
   pub unread_off : (old new : Shown) → StaysOff calls old new → Unread calls old new
   unread_off old new off = record {
     faulted = off.faulted;

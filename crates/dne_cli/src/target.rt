@@ -2,7 +2,7 @@
 ghost use Rattle.std.specs.Prelude.{◌≡◌, ◌≤◌, ◌+◌, [], length, false, true, IfOk, IfErr, OnSome, Some, None, is_some};
 ghost use Rattle.outside.specs.Disk.{Fuse};
 ghost use Rattle.dne_cli.specs.Image.{image_of};
-ghost use Rattle.dne_cli.specs.Disks.{Formatted, calls_of};
+ghost use Rattle.dne_cli.specs.Disks.{Cycled, Formatted, StaysOff, calls_of};
 ghost use Rattle.dne_cli.specs.Kept.{all_stable, Committed, image_bytes, Reformatted, Reopened, standing_of, Torn};
 ghost use Rattle.dne_cli.specs.Restart.{FailsToMake, FailsToRemake, FailsToReopen, fuse_of, held_of};
 
@@ -139,16 +139,28 @@ pub fn commit<D: Plant>(served: Served<D>) -> Result<(Served<D>, Numbers), D>
     }
 }
 
+/// Stops a disk and starts it again. After a fault it is given back as it is.
+fn cycle<D: Plant>(disk: D) -> Result<D, D>
+    ensures ok { IfOk result (λ d. Cycled (calls_of D.cycled D.armed) (D.shown disk) (D.shown d)) }
+    ensures err { IfErr result (λ d. StaysOff (calls_of D.cycled D.armed) (D.shown disk) (D.shown d)) }
+{
+    let mut disk = disk;
+    match disk.power_cycle() {
+        Ok(()) => Ok(disk),
+        Err(_) => Err(disk),
+    }
+}
+
 /// Starts from a disk that was formatted: stops what it was doing, opens it, and reads the numbers that
 /// its image holds.
 pub fn reopen<D: Plant>(alloc: Global, disk: D) -> Result<(Store<D>, Numbers), ReopenFault<D>>
     ensures ok { IfOk result (λ p. Reopened (calls_of D.cycled D.armed) (D.shown disk) (D.shown p.0.disk) (length p.1) p.1) }
     ensures err { IfErr result (λ e. FailsToReopen (calls_of D.cycled D.armed) D.shown (D.shown disk) e) }
 {
-    let mut disk = disk;
-    if disk.power_cycle().is_err() {
-        return Err(ReopenFault::Disk(disk));
-    }
+    let disk = match cycle(disk) {
+        Ok(disk) => disk,
+        Err(disk) => return Err(ReopenFault::Disk(disk)),
+    };
     match Store::open(alloc, disk) {
         Ok((store, image)) => match read_numbers(alloc, image.bytes()) {
             Ok(numbers) => Ok((store, numbers)),
@@ -171,9 +183,8 @@ pub fn reformat<D: Plant>(
     ensures ok { IfOk result (λ s. Reformatted (calls_of D.cycled D.armed) (D.shown disk) (D.shown s.disk)) }
     ensures err { IfErr result (λ e. FailsToRemake (calls_of D.cycled D.armed) D.shown (D.shown disk) e) }
 {
-    let mut disk = disk;
-    if disk.power_cycle().is_err() {
-        return Err(MakeFault::Disk(disk));
+    match cycle(disk) {
+        Ok(disk) => format_disk(alloc, disk, image),
+        Err(disk) => Err(MakeFault::Disk(disk)),
     }
-    format_disk(alloc, disk, image)
 }

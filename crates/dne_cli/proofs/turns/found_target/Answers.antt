@@ -1,7 +1,7 @@
-use Rattle.std.proofs.Common.{[], inl, inr, sym, ap, refl, subst, append-nil}
+use Rattle.std.proofs.Common.{[], inl, inr, sym, ap, ◌∙◌, false, refl, subst, append-nil}
 use Rattle.outside.specs.Disk.{Shown}
 use Rattle.scenario_text.specs.declared.line.Line.TheVariants as lines
-use Rattle.dne_cli.specs.Kept.{Ledger, Founds, serving_on}
+use Rattle.dne_cli.specs.Kept.{Ledger, Founds, serving_on, stopped}
 use Rattle.dne_cli.specs.Disks.{Formatted, Faulted}
 use Rattle.dne_cli.specs.Restart.{FailsToMake, held_of}
 use Rattle.dne_cli.specs.declared.target.MakeFault.TheVariants as make_fault
@@ -25,4 +25,4 @@ returns-in-Err-Disk-clause-lines g c =
     let faulted : Faulted old (shown disk) = subst (λ (d : Shown). Faulted d (shown disk)) c.into_disk.ensures failed in
     printed c.print_down.result c.args.out.now c.print_down.new.out (lines.Down 0) (λ ls. Founds old c.args.ledger.tree.targets new ls)
     c.print_down.ensures.ok
-    (inr (shown disk, faulted, c.halted.ensures, refl))
+    (inr (shown disk, faulted, c.halted.ensures ∙ ap (λ d. stopped false (shown d)) c.in-Err-Disk.disk-is, refl))

@@ -1,5 +1,5 @@
 -- A target that is stopped, or started again, and the turn of any line.
-use Rattle.std.proofs.Common.{◌≡◌, ◌<◌, ◌+◌, ◌||◌, ◌^◌, ℕ, Bool, true, false, List, [], ◌∷◌, ◌++◌, set, IsSome, IsTrue, inl, inr, refl, sym, ap, ◌∙◌, subst, arith}
+use Rattle.std.proofs.Common.{◌≡◌, ◌<◌, ◌||◌, ◌^◌, ℕ, Bool, true, false, List, [], ◌∷◌, ◌++◌, set, IsSome, IsTrue, inl, inr, refl, sym, ap, ◌∙◌, subst, arith}
 use Rattle.outside.specs.Causes.{Rose}
 use Rattle.outside.specs.Disk.{Shown}
 use Rattle.scenario_text.specs.Spelling.{Entry, Skip, Order, NoFeed, line_of}

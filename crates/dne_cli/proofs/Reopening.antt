@@ -1,15 +1,14 @@
 -- A disk that was stopped, and then read or formatted.
-use Rattle.std.specs.Prelude.{is_err, IfErr, IfOk, OnErr}
-use Rattle.std.proofs.Common.{◌≡◌, ◌≤◌, ℕ, Bool, true, false, List, length, IsTrue, Some, None, Result, Ok, Err, inl, inr, refl, sym, ◌∙◌, ap, subst, arith}
-use Rattle.outside.specs.Causes.{Rose, HasCause}
-use Rattle.outside.specs.Disk.{Shown, Stays, IsImage, Cycles, settles}
+use Rattle.std.specs.Prelude.{IfErr, IfOk}
+use Rattle.std.proofs.Common.{◌≡◌, ℕ, List, length, IsTrue, Some, None, Result, Ok, Err, inl, inr, refl, sym, ◌∙◌, ap, subst, arith}
+use Rattle.outside.specs.Causes.{Rose}
+use Rattle.outside.specs.Disk.{Shown, IsImage}
 use Rattle.outside.proofs.Parts.{image_only}
 use Rattle.target_disk.specs.Tables.{Saved, opened}
 use Rattle.target_disk.specs.Open.{Opens, Reopens, StaysSettled}
 use Rattle.target_disk.specs.Reads.{Keeps}
-use Rattle.target_disk.specs.Store.{IsSettled}
 use Rattle.dne_cli.specs.Image.{numbers_in}
-use Rattle.dne_cli.specs.Disks.{Calls, Cycled, Faulted, Formatted, HoldsBadImage, HoldsNothing, HoldsNumbers, StaysOff, Touches, gates_of}
+use Rattle.dne_cli.specs.Disks.{Calls, Cycled, Faulted, Formatted, HoldsBadImage, HoldsNothing, StaysOff, Touches, gates_of}
 use Rattle.dne_cli.specs.Kept.{Damaged, OpensAsBefore, Reformatted, Reopened, Unformatted, Unread}
 use Rattle.dne_cli.specs.Restart.{FailsToMake, FailsToRemake}
 use Rattle.dne_cli.specs.declared.target.MakeFault.{MakeFault}

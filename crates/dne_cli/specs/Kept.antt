@@ -1,5 +1,5 @@
 -- What a session keeps, and what a line of the scenario makes of it.
-use Rattle.std.specs.Prelude.{◌≡◌, ◌≤◌, ◌+◌, ◌⊎◌, nat_lt, length, ℕ, Bool, true, false, IsTrue, List, [], ◌∷◌, ◌++◌, slice_set, slice_index_or, replicate, Option, Some, None, Ok, Err, if◌then◌else◌, is_some, refl}
+use Rattle.std.specs.Prelude.{◌≡◌, ◌+◌, ◌⊎◌, nat_lt, length, ℕ, Bool, true, false, IsTrue, List, [], ◌∷◌, ◌++◌, slice_set, slice_index_or, replicate, Option, Some, None, Ok, Err, if◌then◌else◌, is_some, refl}
 use Rattle.std.specs.List.{flat_map}
 use Rattle.std.specs.Coded.{Coded, code_by, coded×, coded_ℕ, coded_list, coded_bool, coded_option}
 use Rattle.outside.specs.Disk.{Shown, IsImage}
@@ -17,7 +17,7 @@ use Rattle.scenario_text.specs.declared.line.Line.TheVariants as lines
 use Rattle.scenario_text.specs.declared.command.Command.{Command}
 use Rattle.scenario_text.specs.declared.command.Command.TheVariants as commands
 use Rattle.scenario_text.specs.Spelling.{Entry, Skip, Order}
-use Rattle.dne_cli.specs.Image.{head_bytes, item_bytes, image_of, numbers_in}
+use Rattle.dne_cli.specs.Image.{head_bytes, item_bytes, numbers_in}
 use Rattle.dne_cli.specs.Disks.{Calls, FailsToFormat, FailsToRead, Faulted, Formatted, FormatsAfterStop, HoldsBadImage, HoldsNothing, HoldsNumbers, ReadsAfterStop, Touches}
 
 -- what a target that serves keeps in memory: its tree with the cluster, how many operations it accepted

@@ -1,5 +1,5 @@
 -- What the program may write over the bytes that it reads, and what the disk then holds.
-use Rattle.std.specs.Prelude.{◌≡◌, ◌≢◌, ◌≤◌, ℕ, Bool, true, false, IsTrue, length, map, take, List, [], ◌∷◌}
+use Rattle.std.specs.Prelude.{◌≡◌, ◌≢◌, ◌≤◌, ℕ, true, false, IsTrue, length, map, take, List, []}
 use Rattle.std.specs.List.{AllByRecursion}
 use Rattle.outside.specs.Disk.{Shown, IsImage}
 use Rattle.outside.specs.declared.status.Status.{Status}

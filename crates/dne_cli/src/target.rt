@@ -100,11 +100,7 @@ impl<D: Plant> Target<D> {
 }
 
 /// Makes a disk the store of an image of nothing.
-pub fn format_disk<D: Plant>(
-    alloc: Global,
-    disk: D,
-    image: &[u8],
-) -> Result<Store<D>, MakeFault<D>>
+pub fn format_disk<D: Plant>(alloc: Global, disk: D, image: &[u8]) -> Result<Store<D>, MakeFault<D>>
     requires { image.now ≡ image_of [] }
     ensures ok { IfOk result (λ s. Formatted (D.shown disk) (D.shown s.disk)) }
     ensures err { IfErr result (λ e. FailsToMake D.shown (D.shown disk) e) }
@@ -174,11 +170,7 @@ pub fn reopen<D: Plant>(alloc: Global, disk: D) -> Result<(Store<D>, Numbers), R
 }
 
 /// Formats again a disk whose formatting failed: it stops what it was doing first.
-pub fn reformat<D: Plant>(
-    alloc: Global,
-    disk: D,
-    image: &[u8],
-) -> Result<Store<D>, MakeFault<D>>
+pub fn reformat<D: Plant>(alloc: Global, disk: D, image: &[u8]) -> Result<Store<D>, MakeFault<D>>
     requires { image.now ≡ image_of [] }
     ensures ok { IfOk result (λ s. Reformatted (calls_of D.cycled D.armed) (D.shown disk) (D.shown s.disk)) }
     ensures err { IfErr result (λ e. FailsToRemake (calls_of D.cycled D.armed) D.shown (D.shown disk) e) }

@@ -5,10 +5,10 @@ use crate::{dne_main, memory_disks};
 use outside::{FileDisk, MemoryDisk, Plant, TextSink, TextSource};
 use scenario_text::{empty_transcript, first_transcript};
 use std::alloc::Global;
+use std::env;
 use std::fs::{self, File};
 use std::process::{self, Abort};
 use std::test::Fail;
-use std::env;
 use target_disk::Store;
 
 /// An empty request, and a byte behind it.
@@ -75,12 +75,7 @@ fn answers_of_all_words(rt: HostRuntime) -> Result<(), Fail> {
         ("decode record", &RECORD, record, 0),
         ("decode log", b"", "place 0: Truncated\n", 2),
         ("hash foobar", b"", "85944171f73967e8\n", 0),
-        (
-            "fid 2 [0x200180400:0x1:0x2]",
-            b"",
-            "target 1 stripe\n",
-            0,
-        ),
+        ("fid 2 [0x200180400:0x1:0x2]", b"", "target 1 stripe\n", 0),
         ("fid 1 [0x2000003ff:0x1:0x0]", b"", "no home\n", 2),
         ("", b"", bad, 2),
         ("play play", b"", bad, 2),

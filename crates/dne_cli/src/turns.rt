@@ -11,7 +11,9 @@ ghost use Rattle.dne_cli.specs.Session.{count_of};
 
 use crate::image::Image;
 use crate::ledger::Ledger;
-use crate::target::{Halted, MakeFault, ReopenFault, Served, Target, commit, format_disk, reformat, reopen};
+use crate::target::{
+    Halted, MakeFault, ReopenFault, Served, Target, commit, format_disk, reformat, reopen,
+};
 use fid_space::{Bytes, Numbers};
 use outside::Plant;
 use scenario_text::{

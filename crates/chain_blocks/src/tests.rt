@@ -1,5 +1,8 @@
+ghost use Rattle.std.specs.Prelude.{◌<◌, length};
+
 use crate::{Blocks, ChainFault, ChainWriteFault, Full};
-use outside::{Disk, MemoryDisk};
+use fid_space::Bytes;
+use outside::MemoryDisk;
 use std::alloc::Global;
 use std::test::Fail;
 
@@ -50,36 +53,49 @@ fn faults_of_links(rt: HostRuntime) {
     }
 }
 
-/// The last of three blocks holds one byte, and zeros behind it.
-#[test]
-fn a_chain_is_written(rt: HostRuntime) -> Result<(), Fail> {
-    let mut blocks = Blocks::new(rt.alloc(), 4)?;
-    let mut disk = MemoryDisk::new(rt.alloc(), &[])?;
-    let bytes = vec![in rt.alloc(); 7; 8193]?;
-    assert_eq!(rt; blocks.write_chain(&mut disk, 8192, &bytes), Ok(0));
-    let mut end = [9u8; 3];
-    assert_eq!(rt; disk.read_at(16_383, &mut end), Ok(()));
-    assert_eq!(rt; end, [7, 7, 0]);
-    assert_eq!(rt; blocks.free(), 3);
-    Ok(())
+/// Bytes are written into blocks, and read back.
+fn read_back(alloc: Global, bytes: &[u8]) -> Option<(u32, Bytes)>
+    requires { 0 < length bytes.now }
+{
+    let Ok(mut blocks) = Blocks::new(alloc, 4) else {
+        return None;
+    };
+    let Ok(mut disk) = MemoryDisk::new(alloc, &[]) else {
+        return None;
+    };
+    let Ok(head) = blocks.write_chain(&mut disk, 8192, bytes) else {
+        return None;
+    };
+    let mut out = Bytes::new(alloc);
+    if blocks.read_chain(&mut disk, 8192, head, &mut out).is_err() {
+        return None;
+    }
+    Some((head, out))
+}
+
+/// What writing into one block on a disk that fails answers, and the first free block after it.
+fn refused(alloc: Global, bytes: &[u8]) -> Option<(Result<u32, ChainWriteFault>, u32)>
+    requires { 0 < length bytes.now }
+{
+    let Ok(mut blocks) = Blocks::new(alloc, 1) else {
+        return None;
+    };
+    let Ok(mut disk) = MemoryDisk::new(alloc, &[1]) else {
+        return None;
+    };
+    let answer = blocks.write_chain(&mut disk, 0, bytes);
+    Some((answer, blocks.free()))
 }
 
 #[test]
-fn too_few_blocks(rt: HostRuntime) -> Result<(), Fail> {
-    let mut blocks = Blocks::new(rt.alloc(), 1)?;
-    let mut disk = MemoryDisk::new(rt.alloc(), &[])?;
-    let long = vec![in rt.alloc(); 7; 4097]?;
-    let answer = blocks.write_chain(&mut disk, 0, &long);
-    assert_eq!(rt; answer, Err(ChainWriteFault::Full(2)));
-    Ok(())
-}
-
-#[test]
-fn a_call_of_the_disk_fails(rt: HostRuntime) -> Result<(), Fail> {
-    let mut blocks = Blocks::new(rt.alloc(), 1)?;
-    let mut disk = MemoryDisk::new(rt.alloc(), &[1])?;
-    let answer = blocks.write_chain(&mut disk, 0, b"a");
-    assert_eq!(rt; answer, Err(ChainWriteFault::Disk));
-    assert_eq!(rt; blocks.free(), 0);
-    Ok(())
+fn written_and_read(rt: HostRuntime) {
+    let Some((head, out)) = read_back(rt.alloc(), &[7; 8193]) else {
+        panic!(rt; "it wasn't written");
+    };
+    assert_eq!(rt; (head, out.len()), (0, 12288));
+    assert_eq!(rt; (out.get(8192), out.get(8193)), (Some(7), Some(0)));
+    let full = refused(rt.alloc(), &[7; 4097]);
+    assert_eq!(rt; full, Some((Err(ChainWriteFault::Full(2)), 0)));
+    let failed = refused(rt.alloc(), &[7; 4096]);
+    assert_eq!(rt; failed, Some((Err(ChainWriteFault::Disk), 0)));
 }

@@ -1,12 +1,11 @@
 -- A commit that is begun, or given up.
-use Rattle.std.specs.Prelude.{IsTrue}
-use Rattle.std.proofs.Common.{◌≡◌, ◌≤◌, ◌+◌, ◌*◌, ℕ, List, [], ◌∷◌, ◌++◌, Option, Some, None, false, length, take, refl, sym, ◌∙◌, ap, subst, arith}
+use Rattle.std.proofs.Common.{◌≡◌, ℕ, List, [], ◌++◌, Option, Some, None, take, sym, ◌∙◌, ap, subst, arith}
 use Rattle.outside.specs.Disk.{Shown}
 use Rattle.chain_blocks.specs.Stored.{stored}
 use Rattle.target_disk.specs.Tables.{data_at}
 use Rattle.target_disk.specs.Store.{HasPut}
 use Rattle.target_disk.specs.Steps.{KeepsImage}
-use Rattle.target_disk.specs.Consistent.{Fits, IsConsistent, IsDraft, IsTaken, Knows, begun_from, full_blocks}
+use Rattle.target_disk.specs.Consistent.{Fits, IsDraft, IsTaken, Knows, begun_from, full_blocks}
 use Rattle.target_disk.specs.declared.book.Book.{Book}
 use Rattle.target_disk.specs.declared.book.Draft.{Draft}
 use Rattle.target_disk.specs.declared.book.Ends.{Ends}

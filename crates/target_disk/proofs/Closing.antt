@@ -1,18 +1,18 @@
 -- The steps of a commit, and what each image opens as where one of them is cut off.
-use Rattle.std.specs.Prelude.{Result, Ok, Err, IsErr, IsTrue, OnOk, OnErr}
+use Rattle.std.specs.Prelude.{Result, Ok, Err, IsErr}
 use Rattle.std.proofs.lemmas.Result.{IfOk-from_err}
-use Rattle.std.proofs.Common.{◌≡◌, ◌≢◌, ◌⊎◌, inl, inr, ⊎_elim, ◌<◌, ◌≤◌, ◌+◌, ◌*◌, ℕ, List, [], ◌∷◌, ◌++◌, Bool, Option, Some, None, false, true, eqb, length, get_or, take, drop, refl, sym, ◌∙◌, ap, subst, arith, lit≤, lit<}
-use Rattle.outside.specs.Disk.{Shown, Syncs, ChangesOnly, IsImage, part, put, settles}
+use Rattle.std.proofs.Common.{◌≡◌, ◌≢◌, ◌⊎◌, inl, inr, ⊎_elim, ◌<◌, ℕ, List, [], ◌∷◌, Bool, Option, Some, false, true, eqb, length, take, refl, sym, ◌∙◌, ap, subst, arith, lit≤, lit<}
+use Rattle.outside.specs.Disk.{Shown, ChangesOnly, part, put, settles}
 use Rattle.outside.proofs.Parts.{put_changes, part_put, part_below, part_above, get_or_below, image_torn, length-put}
-use Rattle.chain_blocks.specs.Chains.{block_len, times}
+use Rattle.chain_blocks.specs.Chains.{times}
 use Rattle.chain_blocks.specs.Stored.{KeepsOthers, stored}
 use Rattle.chain_blocks.proofs.Spans.{stored_others}
-use Rattle.target_disk.specs.Tables.{Saved, Entry, entry, entry_in, is_open, opened, data_at, home_at, journal_at, table_at, table_len}
+use Rattle.target_disk.specs.Tables.{Saved, Entry, entry_in, is_open, opened, data_at, home_at, journal_at, table_len}
 use Rattle.target_disk.specs.Draft.{put_len}
-use Rattle.target_disk.specs.Calls.{Homes, Puts, TornHome}
+use Rattle.target_disk.specs.Calls.{Homes, TornHome}
 use Rattle.target_disk.specs.Store.{HasPut, OpensAs, OpensAsEither, Stands, following, next}
 use Rattle.target_disk.specs.Steps.{Closes, KeepsImage, PoursRest, Turns}
-use Rattle.target_disk.specs.Consistent.{Fits, Knows, begun_of, draft_chain, image_chain}
+use Rattle.target_disk.specs.Consistent.{Fits, Knows, begun_of, draft_chain}
 use Rattle.target_disk.specs.declared.book.Book.{Book}
 use Rattle.target_disk.proofs.Opening.{entry_from, opened_from, opens_by, gate_front, table_front, saved_of, stored_above}
 use Rattle.target_disk.proofs.Keeping.{kept_opens, fits_apart, put_size, stands_found}
@@ -83,12 +83,14 @@ module _ (xs table : List ℕ) (new : Entry) (size : length xs ≡ 67108864) (ga
   pub home_shut : Both (put (put xs home_at table) 0 (0 ∷ [])) new new × (opened (put (put xs home_at table) 0 (0 ∷ [])) ≡ Some (saved_of xs new))
   home_shut =
       let ys = put xs home_at table in
-      let changes : ChangesOnly 0 1 ys (put ys 0 (0 ∷ [])) = put_changes ys 0 (0 ∷ []) (omega (arith, home_both.size)) in
-      (record {
-        size = length-put ys 0 (0 ∷ []) (omega (arith, home_both.size)) ∙ home_both.size;
-        home = ap entry_in (part_above 0 1 ys (put ys 0 (0 ∷ [])) home_at table_len changes (lit≤ tt)) ∙ home_both.home;
-        journal = ap entry_in (part_above 0 1 ys (put ys 0 (0 ∷ [])) journal_at table_len changes (lit≤ tt)) ∙ home_both.journal;
-      }, opens_by false 0 1 ys (put ys 0 (0 ∷ [])) new changes (inl (lit≤ tt)) (lit≤ tt) (gate_put ys 0) home_both.home ∙ ap Some home_saved)
+      let changes : ChangesOnly 0 1 ys (put ys 0 (0 ∷ [])) = put_changes ys 0 (0 ∷ []) (omega (arith, home_both.size)) in (
+        record {
+          size = length-put ys 0 (0 ∷ []) (omega (arith, home_both.size)) ∙ home_both.size;
+          home = ap entry_in (part_above 0 1 ys (put ys 0 (0 ∷ [])) home_at table_len changes (lit≤ tt)) ∙ home_both.home;
+          journal = ap entry_in (part_above 0 1 ys (put ys 0 (0 ∷ [])) journal_at table_len changes (lit≤ tt)) ∙ home_both.journal;
+        },
+        opens_by false 0 1 ys (put ys 0 (0 ∷ [])) new changes (inl (lit≤ tt)) (lit≤ tt) (gate_put ys 0) home_both.home ∙ ap Some home_saved,
+      )
 
   -- a stop within it leaves what opens
   pub home_torn : (old disk : Shown) → old.content ≡ xs → TornHome table old disk → OpensAs disk (saved_of xs new)
@@ -160,33 +162,34 @@ module _ (before rest after : Book) (old : Shown) (xs : List ℕ) (found : Entry
   -- the journal table may be torn
   pub closes_journal : {T E : Type 0} (q : Result T E) (other : Book) (mid new : Shown) → IsErr q → mid.content ≡ xs → mid.settled ≡ settles mid.content → ChangesOnly journal_at (length after.table.items) mid.settled new.settled → Closes q before other old new
   closes_journal q other mid new err content settled changes = closes_torn q before other old new err (λ s bytes st has image here.
-    let c : ChangesOnly journal_at table_len (settles xs) new.settled = subst (λ (n : ℕ). ChangesOnly journal_at n (settles xs) new.settled) t.fits.table (subst (λ (l : List (Option ℕ)). ChangesOnly journal_at (length after.table.items) l new.settled) (settled ∙ ap settles content) changes) in
-    inl (journal_torn xs after.table.items found (turned rest len) r.size r.shut r.home t.fits.table t.table image (image_torn journal_at table_len xs new.settled image c here) ∙ ap Some (r.was s st)))
+      let c : ChangesOnly journal_at table_len (settles xs) new.settled = subst (λ (n : ℕ). ChangesOnly journal_at n (settles xs) new.settled) t.fits.table (subst (λ (l : List (Option ℕ)). ChangesOnly journal_at (length after.table.items) l new.settled) (settled ∙ ap settles content) changes) in
+      inl (journal_torn xs after.table.items found (turned rest len) r.size r.shut r.home t.fits.table t.table image (image_torn journal_at table_len xs new.settled image c here) ∙ ap Some (r.was s st)))
 
   -- the gate may be torn
   pub closes_gate : {T E : Type 0} (q : Result T E) (other : Book) (mid new : Shown) → IsErr q → mid.content ≡ put xs journal_at after.table.items → mid.settled ≡ settles mid.content → ChangesOnly 0 1 mid.settled new.settled → Closes q before other old new
   closes_gate q other mid new err content settled changes = closes_torn q before other old new err (λ s bytes st has image here.
-    let ys = put xs journal_at after.table.items in
-    let c : ChangesOnly 0 1 (settles ys) new.settled = subst (λ (l : List (Option ℕ)). ChangesOnly 0 1 l new.settled) (settled ∙ ap settles content) changes in
-    let saved = journal_saved xs after.table.items found (turned rest len) r.size r.shut r.home t.fits.table t.table in
-    ⊎_elim
-    (λ e. inl (e ∙ ap Some (saved found ∙ r.was s st)))
-    (λ e. inr (e ∙ ap Some (saved (turned rest len) ∙ is_next s bytes st has)))
-    (gate_torn ys found (turned rest len) (journal_put xs after.table.items found (turned rest len) r.size r.shut r.home t.fits.table t.table) image (image_torn 0 1 ys new.settled image c here)))
+      let ys = put xs journal_at after.table.items in
+      let c : ChangesOnly 0 1 (settles ys) new.settled = subst (λ (l : List (Option ℕ)). ChangesOnly 0 1 l new.settled) (settled ∙ ap settles content) changes in
+      let saved = journal_saved xs after.table.items found (turned rest len) r.size r.shut r.home t.fits.table t.table in
+      ⊎_elim
+      (λ e. inl (e ∙ ap Some (saved found ∙ r.was s st)))
+      (λ e. inr (e ∙ ap Some (saved (turned rest len) ∙ is_next s bytes st has)))
+      (gate_torn ys found (turned rest len) (journal_put xs after.table.items found (turned rest len) r.size r.shut r.home t.fits.table t.table) image (image_torn 0 1 ys new.settled image c here)))
 
   -- the gate is open
   opened_gate : Both (put (put xs journal_at after.table.items) 0 (1 ∷ [])) found (turned rest len) × (saved_of (put (put xs journal_at after.table.items) 0 (1 ∷ [])) (turned rest len) ≡ saved_of xs (turned rest len))
   opened_gate =
       let ys = put xs journal_at after.table.items in
       let both = journal_put xs after.table.items found (turned rest len) r.size r.shut r.home t.fits.table t.table in
-      let changes : ChangesOnly 0 1 ys (put ys 0 (1 ∷ [])) = put_changes ys 0 (1 ∷ []) (omega (arith, both.size)) in
-      (record {
-        size = length-put ys 0 (1 ∷ []) (omega (arith, both.size)) ∙ both.size;
-        home = ap entry_in (part_above 0 1 ys (put ys 0 (1 ∷ [])) home_at table_len changes (lit≤ tt)) ∙ both.home;
-        journal = ap entry_in (part_above 0 1 ys (put ys 0 (1 ∷ [])) journal_at table_len changes (lit≤ tt)) ∙ both.journal;
-      },
-      ap (λ (l : List ℕ). let s : Saved = record { generation = following rest.generation; bytes = take len l } in s) (stored_above 0 1 ys (put ys 0 (1 ∷ [])) data_at (draft_chain rest) changes (lit≤ tt))
-      ∙ journal_saved xs after.table.items found (turned rest len) r.size r.shut r.home t.fits.table t.table (turned rest len))
+      let changes : ChangesOnly 0 1 ys (put ys 0 (1 ∷ [])) = put_changes ys 0 (1 ∷ []) (omega (arith, both.size)) in (
+        record {
+          size = length-put ys 0 (1 ∷ []) (omega (arith, both.size)) ∙ both.size;
+          home = ap entry_in (part_above 0 1 ys (put ys 0 (1 ∷ [])) home_at table_len changes (lit≤ tt)) ∙ both.home;
+          journal = ap entry_in (part_above 0 1 ys (put ys 0 (1 ∷ [])) journal_at table_len changes (lit≤ tt)) ∙ both.journal;
+        },
+        ap (λ (l : List ℕ). let s : Saved = record { generation = following rest.generation; bytes = take len l } in s) (stored_above 0 1 ys (put ys 0 (1 ∷ [])) data_at (draft_chain rest) changes (lit≤ tt))
+            ∙ journal_saved xs after.table.items found (turned rest len) r.size r.shut r.home t.fits.table t.table (turned rest len),
+      )
 
   -- the home table and the gate at the end
   pub closes_home : {T E : Type 0} (q : Result T E) (mid new : Shown) → mid.content ≡ put (put xs journal_at after.table.items) 0 (1 ∷ []) → mid.settled ≡ settles mid.content → Homes after.table.items q mid new → Closes q before after old new

@@ -1,9 +1,8 @@
 -- What was put since a commit was begun.
-use Rattle.std.proofs.Common.{◌≡◌, ◌≢◌, ◌⊎◌, inl, inr, ◌<◌, ◌≤◌, ◌+◌, ◌*◌, ◌-◌, ℕ, List, [], ◌∷◌, ◌++◌, Bool, Option, Some, None, eqb, length, take, drop, refl, sym, ◌∙◌, ap, subst, arith, length-append, length-take}
+use Rattle.std.proofs.Common.{◌≡◌, ◌≢◌, ◌⊎◌, inl, inr, ◌≤◌, ◌+◌, ◌*◌, ℕ, Some, eqb, length, take, sym, ◌∙◌, ap, arith, length-take}
 use Rattle.std.proofs.lemmas.Bool.{eq-eqb, ne_eqb, cases_eq}
-use Rattle.chain_blocks.specs.Chains.{Linked, joined, block_len}
-use Rattle.target_disk.specs.Tables.{image_most}
-use Rattle.target_disk.specs.Draft.{Begun, put_len}
+use Rattle.chain_blocks.specs.Chains.{block_len}
+use Rattle.target_disk.specs.Draft.{put_len}
 use Rattle.target_disk.specs.Consistent.{Fits, begun_of, begun_from, draft_chain, full_blocks, full_of}
 use Rattle.target_disk.specs.declared.book.Book.{Book}
 use Rattle.target_disk.specs.declared.book.Draft.{Draft}

@@ -1,20 +1,20 @@
 -- An image in the blocks of a disk that is formatted.
-use Rattle.std.proofs.Common.{◌≡◌, ◌<◌, ◌≤◌, ◌+◌, ◌-◌, ◌*◌, ◌^◌, ℕ, zero, suc, List, [], ◌∷◌, ◌++◌, Bool, false, Option, Some, None, length, get_or, take, drop, replicate, eqb, refl, sym, ◌∙◌, ap, subst, arith, append-nil, length-append, length-take, length-drop}
+use Rattle.std.proofs.Common.{◌≡◌, ◌<◌, ◌≤◌, ◌+◌, ◌-◌, ◌*◌, ℕ, zero, suc, List, [], ◌∷◌, false, Option, Some, length, get_or, take, drop, replicate, eqb, refl, sym, ◌∙◌, ap, subst, arith, length-append, length-take, length-drop}
 use Rattle.std.specs.Prelude.{Result, Ok, Err, OnOk}
 use Rattle.std.proofs.lemmas.List.{take_at}
 use Rattle.outside.specs.Disk.{Shown, disk_len, part, put, settles, ChangesOnly}
 use Rattle.outside.proofs.Parts.{get_or_below, part_put, put_changes}
-use Rattle.chain_blocks.specs.Chains.{Linked, Holds, block_len, joined, last_link, numbers}
+use Rattle.chain_blocks.specs.Chains.{Linked, Holds, block_len, last_link, numbers}
 use Rattle.chain_blocks.specs.Stored.{IsCount, KeepsOthers, Took, filled, stored}
 use Rattle.chain_blocks.proofs.Trails.{length-numbers}
-use Rattle.target_disk.specs.Tables.{Saved, Table, Entry, block_count, data_at, entry_in, home_at, image_most, is_open, opened, table_bytes, table_len}
+use Rattle.target_disk.specs.Tables.{Saved, Entry, data_at, entry_in, home_at, image_most, is_open, opened, table_bytes, table_len}
 use Rattle.target_disk.specs.Calls.{Puts}
-use Rattle.target_disk.specs.Consistent.{Fits, IsDraft, Knows, image_chain, trail_from}
+use Rattle.target_disk.specs.Consistent.{Fits, IsDraft, image_chain, trail_from}
 use Rattle.target_disk.specs.Steps.{Fills, HoldsImage, IsBlank, TakesImage}
 use Rattle.target_disk.specs.declared.book.Book.{Book}
 use Rattle.target_disk.specs.declared.book.Draft.{Draft}
-use Rattle.target_disk.proofs.Booked.{held_chain, image_from}
-use Rattle.target_disk.proofs.Opening.{entry_from, gate_front, opened_from, saved_of, stored_above}
+use Rattle.target_disk.proofs.Booked.{held_chain}
+use Rattle.target_disk.proofs.Opening.{entry_from, gate_front, opened_from, stored_above}
 use Rattle.target_disk.proofs.RoundTrip.{length-table}
 use Rattle.target_disk.proofs.Turning.{entry_back}
 

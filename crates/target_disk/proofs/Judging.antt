@@ -1,7 +1,7 @@
 -- What a table's bytes stand for, by the links that they have.
-use Rattle.std.proofs.Common.{◌≡◌, ◌≢◌, ⊎_elim, ◌<◌, ◌≤◌, ◌+◌, ◌-◌, ◌*◌, ℕ, zero, suc, List, [], ◌∷◌, ◌++◌, Bool, true, false, cond, ◌&&◌, Option, Some, None, length, get_or, take, drop, eqb, leb, ltb, refl, sym, ◌∙◌, ap, subst, arith, append-nil, append_assoc}
+use Rattle.std.proofs.Common.{◌≡◌, ◌≢◌, ⊎_elim, ◌<◌, ◌≤◌, ◌+◌, ◌*◌, ℕ, zero, suc, List, [], ◌∷◌, ◌++◌, Bool, true, false, cond, ◌&&◌, Option, Some, None, length, get_or, take, drop, eqb, leb, ltb, refl, sym, ◌∙◌, ap, subst, arith, append-nil, append_assoc}
 use Rattle.std.specs.Prelude.{Result, Ok, Err}
-use Rattle.std.proofs.lemmas.Bool.{leb-true, ltb-true, cases_Bool, false≢true, cases_eq, cond-true, cond-false, eq-eqb, ne_eqb, le-leb, lt-leb}
+use Rattle.std.proofs.lemmas.Bool.{leb-true, ltb-true, false≢true, cases_eq, cond-true, cond-false, eq-eqb, le-leb, lt-leb}
 use Rattle.std.specs.Int.{w32, from_le_bytes}
 use Rattle.outside.specs.Disk.{part}
 use Rattle.chain_blocks.specs.Chains.{Linked, Holds, joined, last_link, block_len}

@@ -1,22 +1,22 @@
 -- Blocks that are written for a commit lie apart from those of the image.
 use Rattle.std.specs.Prelude.{IsTrue}
-use Rattle.std.proofs.Common.{◌≡◌, ◌≢◌, ◌⊎◌, inl, inr, ◌<◌, ◌≤◌, ◌+◌, ◌*◌, ℕ, List, [], ◌∷◌, ◌++◌, Option, Some, None, false, length, take, drop, refl, sym, ◌∙◌, ap, subst, arith, append-nil, length-append, length-take, length-drop, lit≤}
+use Rattle.std.proofs.Common.{◌≡◌, ◌≢◌, ◌⊎◌, inl, inr, ◌<◌, ◌≤◌, ◌+◌, ◌*◌, ℕ, List, [], ◌∷◌, ◌++◌, Option, Some, None, false, length, take, drop, refl, sym, ◌∙◌, ap, subst, arith, append-nil, length-append, length-take, length-drop}
 use Rattle.std.proofs.lemmas.Bool.{cases_lt}
 use Rattle.outside.specs.Disk.{Shown, part, settles}
-use Rattle.chain_blocks.specs.Chains.{Linked, Holds, block_len, times, joined}
+use Rattle.chain_blocks.specs.Chains.{block_len, times, joined}
 use Rattle.chain_blocks.specs.Stored.{KeepsOthers, place, stored}
 use Rattle.chain_blocks.proofs.Counting.{times-append, times_here, joined-append}
 use Rattle.chain_blocks.proofs.Found.{at_most_once}
 use Rattle.chain_blocks.proofs.Spans.{image_part, reads_back, stored_others}
-use Rattle.target_disk.specs.Tables.{Saved, Entry, entry, entry_in, is_open, opened, data_at, home_at, table_len}
-use Rattle.target_disk.specs.Draft.{Begun, put_len}
+use Rattle.target_disk.specs.Tables.{Saved, entry, entry_in, data_at}
+use Rattle.target_disk.specs.Draft.{put_len}
 use Rattle.target_disk.specs.Store.{HasPut, OpensAs, Stands}
 use Rattle.target_disk.specs.Steps.{KeepsImage}
 use Rattle.target_disk.specs.Consistent.{Fits, Knows, IsDraft, begun_of, begun_from, draft_chain, full_blocks, full_of, image_chain}
 use Rattle.target_disk.specs.declared.book.Book.{Book}
 use Rattle.target_disk.specs.declared.book.Draft.{Draft}
 use Rattle.target_disk.proofs.Chained.{image_is, full_taken}
-use Rattle.target_disk.proofs.Opening.{entry_from, entry_front, gate_front, table_front, opened_from, opens_apart, saved_of}
+use Rattle.target_disk.proofs.Opening.{entry_from, entry_front, gate_front, table_front, opened_from, opens_apart}
 
 some_same : {A : Type 0} (a b : A) → Some a ≡ Some b → a ≡ b
 some_same a b e = cc
@@ -30,12 +30,14 @@ drafted most book f k = by_draft book.draft refl
 
 -- no block is both in the image's chain and taken for a commit
 pub fits_apart : (most : ℕ) (book : Book) → Fits most book → (k : ℕ) → times k (image_chain book) ≢ 0 → times k (draft_chain book) ≡ 0
-fits_apart most book f k ne = apart (times k (image_chain book)) (times k (draft_chain book)) ne (omega (arith,
+fits_apart most book f k ne = apart (times k (image_chain book)) (times k (draft_chain book)) ne (omega (
+  arith,
   at_most_once book.blocks f.free (f.taken ++ (book.head ∷ f.behind) ∷ []) f.holds k,
   ap (times k) (joined-append f.taken ((book.head ∷ f.behind) ∷ []) ∙ ap (λ (l : List ℕ). joined f.taken ++ l) (append-nil (book.head ∷ f.behind))),
   times-append k (joined f.taken) (book.head ∷ f.behind),
   ap (times k) (image_is most book f),
-  drafted most book f k))
+  drafted most book f k,
+))
   where
     apart : (i d : ℕ) → i ≢ 0 → i + d ≤ 1 → d ≡ 0
     apart i d ne le = omega arith
@@ -46,11 +48,13 @@ draft_inside most book f k ne = by_cases (cases_lt k (length book.blocks.links))
   where
     by_cases : (k < length book.blocks.links) ⊎ (length book.blocks.links ≤ k) → k < 16000
     by_cases (inl lt) = omega (arith, f.count)
-    by_cases (inr le) = absurd (ne (none (times k (draft_chain book)) (omega (arith,
+    by_cases (inr le) = absurd (ne (none (times k (draft_chain book)) (omega (
+      arith,
       f.holds.outside k le,
       ap (times k) (joined-append f.taken ((book.head ∷ f.behind) ∷ [])),
       times-append k (joined f.taken) (joined ((book.head ∷ f.behind) ∷ [])),
-      drafted most book f k))))
+      drafted most book f k,
+    ))))
       where
         none : (n : ℕ) → n ≤ 0 → n ≡ 0
         none n le = omega arith

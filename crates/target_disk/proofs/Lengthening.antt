@@ -1,12 +1,11 @@
 -- A block behind those that were taken for a commit.
-use Rattle.std.proofs.Common.{◌≡◌, ◌<◌, ◌≤◌, ◌+◌, ℕ, List, [], ◌∷◌, ◌++◌, Option, Some, None, length, refl, sym, ◌∙◌, ap, subst, arith, append-nil, length-append}
+use Rattle.std.proofs.Common.{◌≡◌, ◌<◌, ℕ, List, [], ◌∷◌, ◌++◌, Option, Some, None, length, refl, sym, ◌∙◌, ap, subst, arith, append-nil, length-append}
 use Rattle.std.specs.Prelude.{Result, Ok, Err}
 use Rattle.chain_blocks.specs.Chains.{Linked, Holds, IsTail, LinksBehind, Takes, joined}
 use Rattle.chain_blocks.proofs.Taking.{taking_none}
 use Rattle.target_disk.specs.Consistent.{IsTaken}
 use Rattle.target_disk.specs.Steps.{Lengthens}
 use Rattle.target_disk.specs.declared.book.Ends.{Ends}
-use Rattle.target_disk.proofs.Booked.{cons_of}
 
 -- the chain that was taken, by its last block
 held_tail : (old : Linked) (e : Ends) (ends : Option Ends) (free : List ℕ) (taken rest : List (List ℕ)) (full : ℕ) → ends ≡ Some e → IsTaken ends taken full → Holds old free (taken ++ rest) → (before : List ℕ) × Holds old free ((before ++ e.tail ∷ []) ∷ rest)

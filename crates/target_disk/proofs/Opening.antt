@@ -1,8 +1,8 @@
 -- What a disk's bytes open as, after a change of a part of them.
-use Rattle.std.proofs.Common.{◌≡◌, ◌⊎◌, inl, inr, ⊎_elim, ◌<◌, ◌≤◌, ◌+◌, ◌-◌, ◌*◌, ℕ, List, [], ◌∷◌, ◌++◌, Bool, true, false, Option, Some, None, length, get_or, take, drop, map, eqb, refl, sym, ◌∙◌, ap, subst, arith, lit≤, lit<}
+use Rattle.std.proofs.Common.{◌≡◌, ◌⊎◌, ⊎_elim, ◌≤◌, ◌+◌, ℕ, List, [], ◌∷◌, ◌++◌, Bool, true, false, Option, Some, None, get_or, take, drop, eqb, refl, sym, ◌∙◌, ap, subst, arith, lit≤, lit<}
 use Rattle.std.proofs.lemmas.List.{take-take, drop-take, take-map, drop-map, map-append, get_or-take}
 use Rattle.outside.specs.Disk.{Shown, part, ChangesOnly, IsImage, settles}
-use Rattle.outside.proofs.Parts.{part_below, part_above, get_or_above, image_only}
+use Rattle.outside.proofs.Parts.{part_below, part_above, image_only}
 use Rattle.chain_blocks.specs.Chains.{block_len}
 use Rattle.chain_blocks.specs.Stored.{place, stored}
 use Rattle.chain_blocks.proofs.Spans.{image_part, reads_back}

@@ -1,7 +1,7 @@
 -- Pieces that are put behind one another, and the blocks that are written as they are full.
-use Rattle.std.specs.Prelude.{Result, Ok, IsErr, IsSome, OnOk}
+use Rattle.std.specs.Prelude.{Result, Ok, IsErr, IsSome}
 use Rattle.std.proofs.lemmas.Result.{IfOk-from_err}
-use Rattle.std.proofs.Common.{◌≡◌, ◌≢◌, ◌<◌, ◌≤◌, ◌+◌, ◌*◌, ◌-◌, ℕ, List, [], ◌∷◌, ◌++◌, Bool, true, false, Option, Some, None, eqb, length, take, drop, refl, sym, ◌∙◌, ap, subst, arith, append_assoc, append-nil, length-append, length-take}
+use Rattle.std.proofs.Common.{◌≡◌, ◌≢◌, ◌≤◌, ◌+◌, ◌*◌, ℕ, List, [], ◌∷◌, ◌++◌, false, Option, Some, None, eqb, length, take, refl, sym, ◌∙◌, ap, subst, arith, append_assoc, append-nil, length-append}
 use Rattle.std.proofs.lemmas.Bool.{eq-eqb, false≢true, true≢false}
 use Rattle.std.proofs.lemmas.List.{take_all}
 use Rattle.outside.specs.Disk.{Shown, Writes, ChangesOnly, part, put}

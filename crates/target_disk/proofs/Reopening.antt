@@ -1,18 +1,17 @@
 -- A disk that is opened as a store.
-use Rattle.std.proofs.Common.{◌≡◌, ◌⊎◌, inl, inr, ⊎_elim, ◌<◌, ◌≤◌, ◌+◌, ◌-◌, ◌^◌, ℕ, List, [], ◌∷◌, ◌++◌, Bool, true, false, Option, Some, None, length, get_or, take, eqb, refl, sym, ◌∙◌, ap, subst, arith}
-use Rattle.std.specs.Prelude.{IsTrue, Result, Ok, Err, is_err}
-use Rattle.std.proofs.lemmas.Bool.{cases_Bool, true≢false}
+use Rattle.std.proofs.Common.{◌≡◌, inl, ⊎_elim, ◌≤◌, ℕ, List, [], ◌∷◌, Bool, true, false, Option, Some, None, length, take, refl, sym, ◌∙◌, ap, subst, arith}
+use Rattle.std.specs.Prelude.{IsTrue, Result, Ok, Err}
+use Rattle.std.proofs.lemmas.Bool.{cases_Bool}
 use Rattle.outside.specs.Causes.{Rose}
 use Rattle.outside.specs.Disk.{Shown, Stays, IsImage, ChangesOnly, disk_len, part, put, settles}
-use Rattle.outside.proofs.Parts.{image_only, image_torn, length-put, part_above, part_below, part_put, put_changes}
-use Rattle.chain_blocks.specs.Chains.{Holds, IsTrail}
+use Rattle.outside.proofs.Parts.{image_only, image_torn, length-put, part_above, part_put, put_changes}
+use Rattle.chain_blocks.specs.Chains.{IsTrail}
 use Rattle.chain_blocks.specs.Stored.{stored}
 use Rattle.target_disk.specs.Calls.{Homes, Redoes, TornHome}
 use Rattle.target_disk.specs.Consistent.{Knows, image_chain}
 use Rattle.target_disk.specs.Open.{Reopens}
 use Rattle.target_disk.specs.Reads.{Keeps, ReadFlag}
 use Rattle.target_disk.specs.Steps.{IsBook}
-use Rattle.target_disk.specs.Store.{IsSettled}
 use Rattle.target_disk.specs.Tables.{Saved, Entry, data_at, entry, entry_in, home_at, image_at, is_open, journal_at, opened, table_at, table_len}
 use Rattle.target_disk.specs.declared.book.Book.{Book}
 use Rattle.target_disk.specs.declared.read.ReadFault.{ReadFault}

@@ -1,24 +1,22 @@
 -- The last bytes of a commit, with zeros behind them.
 use Rattle.std.specs.Prelude.{Result, Ok, Err, OnOk}
-use Rattle.std.proofs.Common.{◌≡◌, ◌≢◌, ◌<◌, ◌≤◌, ◌+◌, ◌*◌, ◌-◌, ℕ, List, [], ◌∷◌, ◌++◌, Option, Some, None, length, take, drop, replicate, refl, sym, ◌∙◌, ap, subst, arith, append_assoc, append-nil, length-append, length-take}
-use Rattle.std.proofs.lemmas.List.{take_all, length-replicate}
+use Rattle.std.proofs.Common.{◌≡◌, ◌≢◌, ◌≤◌, ◌+◌, ◌-◌, ℕ, List, [], ◌∷◌, ◌++◌, Option, Some, length, take, replicate, refl, sym, ◌∙◌, ap, subst, arith, append_assoc, append-nil}
 use Rattle.std.proofs.Math.Seq.{take-append_seam}
-use Rattle.outside.specs.Disk.{Shown, Writes, ChangesOnly, part, put}
+use Rattle.outside.specs.Disk.{Shown, Writes, part, put}
 use Rattle.outside.proofs.Parts.{part_put}
-use Rattle.chain_blocks.specs.Chains.{Linked, Holds, block_len, times}
-use Rattle.chain_blocks.specs.Stored.{IsCount, KeepsOthers, place, stored}
+use Rattle.chain_blocks.specs.Chains.{Linked, block_len, times}
+use Rattle.chain_blocks.specs.Stored.{KeepsOthers, place, stored}
 use Rattle.chain_blocks.proofs.Counting.{times_there}
 use Rattle.chain_blocks.proofs.Spans.{keeps_on, stored_others, stored-append}
 use Rattle.target_disk.specs.Tables.{data_at}
-use Rattle.target_disk.specs.Draft.{Begun, put_len}
+use Rattle.target_disk.specs.Draft.{Begun}
 use Rattle.target_disk.specs.Store.{HasPut}
-use Rattle.target_disk.specs.Steps.{Extends, KeepsImage, PoursRest}
-use Rattle.target_disk.specs.Consistent.{Fits, IsDraft, begun_of, draft_chain, full_blocks, full_of, image_chain, trail_from}
+use Rattle.target_disk.specs.Steps.{Extends, PoursRest}
+use Rattle.target_disk.specs.Consistent.{Fits, draft_chain, full_blocks, full_of}
 use Rattle.target_disk.specs.declared.book.Book.{Book}
 use Rattle.target_disk.specs.declared.book.Draft.{Draft}
-use Rattle.target_disk.proofs.Chained.{draft_is}
-use Rattle.target_disk.proofs.Drafting.{begun_is, chain_is, put_len_is}
-use Rattle.target_disk.proofs.Pouring.{some_draft, writes_block}
+use Rattle.target_disk.proofs.Drafting.{begun_is, chain_is}
+use Rattle.target_disk.proofs.Pouring.{writes_block}
 
 -- a book with another block of bytes
 pub record SameBook (one two : Book) : Type 0 where

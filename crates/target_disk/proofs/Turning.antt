@@ -1,12 +1,12 @@
 -- The chain of a commit becomes that of the image.
-use Rattle.std.proofs.Common.{◌≡◌, ◌≢◌, ⊎_elim, ◌<◌, ◌≤◌, ◌+◌, ◌-◌, ◌*◌, ◌^◌, ℕ, List, [], ◌∷◌, ◌++◌, Bool, true, ◌&&◌, Option, Some, None, length, get_or, leb, ltb, refl, sym, ◌∙◌, ap, subst, arith, append-nil, length-append}
+use Rattle.std.proofs.Common.{◌≡◌, ◌≢◌, ⊎_elim, ◌<◌, ◌≤◌, ◌+◌, ◌*◌, ◌^◌, ℕ, List, [], ◌∷◌, ◌++◌, Bool, true, ◌&&◌, Option, Some, None, length, get_or, leb, ltb, refl, sym, ◌∙◌, ap, subst, arith, append-nil, length-append}
 use Rattle.std.proofs.lemmas.Bool.{cases_eq, le-leb, lt-ltb}
 use Rattle.chain_blocks.specs.Chains.{Linked, Holds, IsTrail, IsChain, AreChains, block_len, joined, last_link, times}
 use Rattle.chain_blocks.specs.Stored.{IsCount}
-use Rattle.chain_blocks.proofs.Counting.{times-append, times_here, times_there}
+use Rattle.chain_blocks.proofs.Counting.{times-append, times_there}
 use Rattle.chain_blocks.proofs.Found.{found_lists}
 use Rattle.chain_blocks.proofs.Trails.{holds_swap}
-use Rattle.target_disk.specs.Tables.{Table, Entry, block_count, ends_in, entry_in, image_most, table_bytes, table_len}
+use Rattle.target_disk.specs.Tables.{Table, Entry, block_count, ends_in, entry_in, image_most, table_bytes}
 use Rattle.target_disk.specs.Draft.{put_len}
 use Rattle.target_disk.specs.Consistent.{Fits, IsDraft, IsTaken, begun_of, draft_chain}
 use Rattle.target_disk.specs.Steps.{Turns}

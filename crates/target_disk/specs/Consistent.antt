@@ -1,7 +1,7 @@
 -- What a store keeps in memory, and what it knows by it of its disk.
-use Rattle.std.specs.Prelude.{◌≡◌, ◌+◌, ◌*◌, ◌^◌, ◌<◌, ◌≤◌, ℕ, zero, suc, List, [], ◌∷◌, ◌++◌, Bool, false, IsTrue, Option, Some, None, length, take, if◌then◌else◌, ◌==◌, slice_index_or}
+use Rattle.std.specs.Prelude.{◌≡◌, ◌+◌, ◌*◌, ◌<◌, ◌≤◌, ℕ, zero, suc, List, [], ◌∷◌, ◌++◌, false, IsTrue, Option, Some, None, length, take, if◌then◌else◌, ◌==◌, slice_index_or}
 use Rattle.outside.specs.Disk.{Shown, part}
-use Rattle.chain_blocks.specs.Chains.{Linked, Holds, block_len, last_link}
+use Rattle.chain_blocks.specs.Chains.{Holds, block_len, last_link}
 use Rattle.target_disk.specs.Tables.{Entry, entry_in, is_open, block_count, home_at, image_most, table_len}
 use Rattle.target_disk.specs.Draft.{Begun}
 use Rattle.target_disk.specs.declared.book.Book.{Book}

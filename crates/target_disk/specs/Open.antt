@@ -1,5 +1,5 @@
 -- What opening and formatting a store do.
-use Rattle.std.specs.Prelude.{◌≡◌, ◌≤◌, ◌<◌, ℕ, List, false, true, IsTrue, IsSome, Some, None, length, if◌then◌else◌}
+use Rattle.std.specs.Prelude.{◌≡◌, ◌≤◌, ◌<◌, ℕ, List, false, true, IsTrue, Some, None, length, if◌then◌else◌}
 use Rattle.outside.specs.Causes.{Rose}
 use Rattle.outside.specs.Disk.{Shown, IsImage, Stays, settles}
 use Rattle.target_disk.specs.Tables.{Saved, image_most, is_open, opened}

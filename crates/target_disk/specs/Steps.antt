@@ -1,12 +1,12 @@
 -- The steps of a commit, by what a store keeps in memory and what the disk shows after each.
-use Rattle.std.specs.Prelude.{◌≡◌, ◌+◌, ◌*◌, ◌<◌, ◌≤◌, ℕ, List, [], ◌∷◌, ◌++◌, false, IsTrue, Option, Some, None, length, take, Result, Ok, Err, OnOk, OnErr, MatchResult}
+use Rattle.std.specs.Prelude.{◌≡◌, ◌+◌, ◌*◌, ◌<◌, ℕ, List, [], ◌∷◌, ◌++◌, false, Some, None, length, take, Result, OnOk, OnErr}
 use Rattle.outside.specs.Disk.{Shown, settles}
 use Rattle.chain_blocks.specs.Chains.{Linked, Holds, block_len, joined, times}
 use Rattle.chain_blocks.specs.Stored.{IsCount, KeepsOthers, stored}
 use Rattle.target_disk.specs.Tables.{Saved, Entry, data_at, entry_in, is_open, block_count, table_len, opened}
 use Rattle.target_disk.specs.Consistent.{Fits, IsTaken, Knows, begun_of, draft_chain, image_chain}
 use Rattle.target_disk.specs.Draft.{put_len}
-use Rattle.target_disk.specs.Store.{HasPut, IsSettled, OpensAs, OpensAsEither, Stands, following, next}
+use Rattle.target_disk.specs.Store.{HasPut, OpensAsEither, Stands, following, next}
 use Rattle.target_disk.specs.declared.book.Book.{Book}
 use Rattle.target_disk.specs.declared.book.Ends.{Ends}
 use Rattle.target_disk.specs.declared.book.Verdict.{Verdict}

@@ -1,9 +1,9 @@
-use Rattle.std.specs.Prelude.{Err, Ok, true, false}
+use Rattle.std.specs.Prelude.{Err, Ok}
 use Rattle.chain_blocks.specs.Walk.{judged}
-use Rattle.std.proofs.Common.{◌∷◌, [], ◌≡◌, ◌-◌, ◌∙◌, ⊎_elim, Some, None, length, sym, ap, subst, arith, refl}
+use Rattle.std.proofs.Common.{◌∷◌, [], ◌≡◌, ◌-◌, ◌∙◌, ⊎_elim, None, length, sym, ap, subst, arith, refl}
 use Rattle.chain_blocks.specs.Chains.{joined}
 use Rattle.target_disk.specs.Parts.{table_of}
-use Rattle.target_disk.specs.Tables.{block_count, ends_in, table_in}
+use Rattle.target_disk.specs.Tables.{ends_in}
 use Rattle.target_disk.proofs.Judging.{entry_blank, entry_fault, entry_from_table, entry_long, entry_no_table, entry_unended, is_book, judged_count, said, said_in, table_links}
 use Rattle.target_disk.proofs.book.judge.Goals.{then-parts-eq0-via-then-parts-eq0, then-parts-eq0-via-else-parts-eq0+then-parts-gt-IMAGE_MOST}
 use Rattle.target_disk.proofs.book.judge.Goals as goal

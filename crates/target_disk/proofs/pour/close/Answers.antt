@@ -1,12 +1,11 @@
 use Rattle.std.specs.Prelude.{IsTrue, ◌∷◌, []}
-use Rattle.std.proofs.Common.{◌≡◌, ◌∙◌, ◌+◌, ◌*◌, ◌-◌, ◌≤◌, false, true, refl, sym, ap, subst, arith, length}
-use Rattle.std.proofs.lemmas.Result.{IfOk-at_ok}
+use Rattle.std.proofs.Common.{◌≡◌, ◌∙◌, refl, sym, ap, subst, length}
 use Rattle.std.proofs.lemmas.Bool.{false≢true}
 use Rattle.outside.specs.Disk.{put, settles, ChangesOnly}
 use Rattle.chain_blocks.specs.Stored.{KeepsOthers}
 use Rattle.target_disk.specs.Tables.{data_at, journal_at}
 use Rattle.target_disk.specs.Calls.{Homes}
-use Rattle.target_disk.specs.Consistent.{Knows, draft_chain}
+use Rattle.target_disk.specs.Consistent.{draft_chain}
 use Rattle.target_disk.proofs.Closing.{closes_before, closes_journal, closes_gate, closes_home, ready}
 use Rattle.target_disk.proofs.pour.close.Goals as goal
 

@@ -1,6 +1,5 @@
-use Rattle.std.proofs.Common.{◌≡◌, ◌+◌, ◌*◌, ◌≤◌, arith, length}
+use Rattle.std.proofs.Common.{arith}
 use Rattle.std.proofs.lemmas.Grind.{common_steps}
-use Rattle.target_disk.specs.Tables.{image_most}
 use Rattle.target_disk.proofs.Chained.{draft_is}
 use Rattle.target_disk.proofs.Drafting.{put_len_is, full_len}
 use Rattle.target_disk.proofs.pour.fill_block.Goals as goal

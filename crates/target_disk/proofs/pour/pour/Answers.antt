@@ -1,10 +1,10 @@
-use Rattle.std.specs.Prelude.{IsTrue, ◌<◌, ◌++◌}
-use Rattle.std.proofs.Common.{◌≡◌, ◌∙◌, ◌+◌, ◌*◌, ◌-◌, ◌≤◌, sym, ap, subst, arith, length, take, drop, length-take, length-drop}
+use Rattle.std.specs.Prelude.{IsTrue, ◌++◌}
+use Rattle.std.proofs.Common.{◌≡◌, ◌∙◌, ◌+◌, ◌*◌, ◌-◌, ◌≤◌, sym, ap, subst, arith, length, take, drop, length-drop}
 use Rattle.std.proofs.lemmas.Bool.{eqb-true, false≢true}
 use Rattle.std.proofs.lemmas.Result.{IfOk-at_ok}
 use Rattle.std.proofs.lemmas.List.{take_all, length-take-le}
 use Rattle.std.proofs.Math.Seq.{take-add}
-use Rattle.outside.specs.Disk.{put, disk_len}
+use Rattle.outside.specs.Disk.{put}
 use Rattle.chain_blocks.specs.Chains.{block_len}
 use Rattle.chain_blocks.specs.Stored.{place}
 use Rattle.target_disk.specs.Draft.{joins, put_len}

@@ -1,4 +1,3 @@
-use Rattle.std.specs.Prelude.{IsTrue}
 use Rattle.std.proofs.Common.{◌≡◌, ◌-◌, ℕ, ap, arith, length, length-append, length-take, take, replicate}
 use Rattle.std.proofs.lemmas.List.{length-replicate}
 use Rattle.chain_blocks.specs.Chains.{block_len}

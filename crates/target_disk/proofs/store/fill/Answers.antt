@@ -1,5 +1,5 @@
 use Rattle.std.specs.Prelude.{IsTrue}
-use Rattle.std.proofs.Common.{length, sym, subst, ap, arith, ◌∙◌}
+use Rattle.std.proofs.Common.{length, sym, subst, ap, arith}
 use Rattle.target_disk.specs.Calls.{Puts}
 use Rattle.target_disk.specs.Tables.{home_at}
 use Rattle.target_disk.proofs.Formatting.{fills_put, fits_taken, on_ok, table_long}

@@ -1,4 +1,4 @@
-use Rattle.std.proofs.Common.{◌≡◌, ◌∙◌, sym}
+use Rattle.std.proofs.Common.{◌∙◌, sym}
 use Rattle.target_disk.proofs.Beginning.{begins, begun_none}
 use Rattle.target_disk.proofs.store.Store.begin.Goals as goal
 

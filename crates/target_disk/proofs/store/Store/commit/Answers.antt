@@ -1,7 +1,6 @@
 use Rattle.std.specs.Prelude.{[]}
-use Rattle.std.proofs.Common.{◌≡◌, ◌+◌, inl, sym, subst, arith, length}
-use Rattle.target_disk.specs.Draft.{put_len}
-use Rattle.target_disk.specs.Store.{CommitCauses, Stands}
+use Rattle.std.proofs.Common.{inl, sym, subst}
+use Rattle.target_disk.specs.Store.{Stands}
 use Rattle.target_disk.proofs.store.Store.commit.Goals as goal
 
 pub returns-in-Ok-clause-any_moment : goal.returns-in-Ok-clause-any_moment

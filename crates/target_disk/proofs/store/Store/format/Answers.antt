@@ -6,9 +6,12 @@ use Rattle.target_disk.proofs.Opening.{settled_opens}
 use Rattle.target_disk.proofs.store.Store.format.Goals as goal
 
 pub invariant_of-result : goal.invariant_of-result
-invariant_of-result g c = (c.in-Ok-fill.ensures.fits, λ honest works.
-    let is : IsTrue (g.D.Disk.shown c.args.disk).honest = subst IsTrue c.fill.ensures.stays.honest honest in
-    (c.in-Ok-fill.ensures.fills is).knows)
+invariant_of-result g c = (
+  c.in-Ok-fill.ensures.fits,
+  λ honest works.
+      let is : IsTrue (g.D.Disk.shown c.args.disk).honest = subst IsTrue c.fill.ensures.stays.honest honest in
+      (c.in-Ok-fill.ensures.fills is).knows,
+)
 
 pub returns-in-Ok-fill-clause-ok : goal.returns-in-Ok-fill-clause-ok
 returns-in-Ok-fill-clause-ok g c =

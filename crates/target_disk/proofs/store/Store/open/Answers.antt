@@ -1,5 +1,5 @@
 use Rattle.std.specs.Prelude.{IsTrue, false}
-use Rattle.std.proofs.Common.{ℕ, List, ◌≡◌, ◌∙◌, refl, sym, subst, ap}
+use Rattle.std.proofs.Common.{ℕ, List, ◌≡◌, ◌∙◌, refl, sym, subst}
 use Rattle.std.proofs.lemmas.Bool.{cond-true, cond-false}
 use Rattle.target_disk.specs.Calls.{Redoes}
 use Rattle.target_disk.specs.Reads.{Keeps}
@@ -15,22 +15,29 @@ returns-in-Err-look-clause-err g c = (keeps_reopens (g.D.Disk.shown c.args.disk)
 pub returns-in-Ok-Unreadable-clause-err : goal.returns-in-Ok-Unreadable-clause-err
 returns-in-Ok-Unreadable-clause-err g c =
     let old = g.D.Disk.shown c.args.disk in
-    let items = c.look.new.table.items in
-    (c.look.ensures.keeps, λ honest. c.in-Ok-look.ensures.flag honest, λ tells.
-    let gate = c.in-Ok-look.ensures.gate tells in
-    (none_opened old.content items c.in-Ok-look.is_open gate (c.in-Ok-look.ensures.table tells) (subst (λ v. IsVerdict items v) c.in-Ok-Unreadable.field-0-is c.in-Ok-Unreadable.ensures),
-    elim c.if-is_open.branch [
-      then-is_open w ↦ w.result-is ∙ sym (cond-true (is_open old.content) 1 0 (sym gate ∙ w.if-is_open.true))
-    | else-is_open w ↦ w.result-is ∙ sym (cond-false (is_open old.content) 1 0 (sym gate ∙ w.if-is_open.false))
-    ]))
+    let items = c.look.new.table.items in (
+      c.look.ensures.keeps,
+      λ honest. c.in-Ok-look.ensures.flag honest,
+      λ tells.
+          let gate = c.in-Ok-look.ensures.gate tells in (
+            none_opened old.content items c.in-Ok-look.is_open gate (c.in-Ok-look.ensures.table tells) (subst (λ v. IsVerdict items v) c.in-Ok-Unreadable.field-0-is c.in-Ok-Unreadable.ensures),
+            elim c.if-is_open.branch [
+              | then-is_open w ↦ w.result-is ∙ sym (cond-true (is_open old.content) 1 0 (sym gate ∙ w.if-is_open.true))
+              | else-is_open w ↦ w.result-is ∙ sym (cond-false (is_open old.content) 1 0 (sym gate ∙ w.if-is_open.false))
+            ],
+          ),
+    )
 
 pub returns-in-Err-Disk-clause-err : goal.returns-in-Err-Disk-clause-err
 returns-in-Err-Disk-clause-err g c =
     let old = g.D.Disk.shown c.args.disk in
     let one = g.D.Disk.shown c.look.new.disk in
-    let two = g.D.Disk.shown c.read_image.new.disk in
-    (keeps_reopens old two (keeps_both old one two c.look.ensures.keeps c.read_image.ensures.keeps), rose_later old.faults one.faults two.faults c.look.ensures.keeps.later (c.read_image.ensures.cause (c.in-Err-Disk.is ∙ err_same (List ℕ) _ _ c.in-Err-Disk.field-0-is)), λ honest.
-    read_flag (List ℕ) two.failed c.in-Err-Disk.field-0 c.in-Err-Disk.field-0-is (c.in-Err-Disk.ensures.flags (subst IsTrue (sym c.look.ensures.keeps.stays.honest) honest) (c.in-Ok-look.ensures.flag honest)))
+    let two = g.D.Disk.shown c.read_image.new.disk in (
+      keeps_reopens old two (keeps_both old one two c.look.ensures.keeps c.read_image.ensures.keeps),
+      rose_later old.faults one.faults two.faults c.look.ensures.keeps.later (c.read_image.ensures.cause (c.in-Err-Disk.is ∙ err_same (List ℕ) _ _ c.in-Err-Disk.field-0-is)),
+      λ honest.
+          read_flag (List ℕ) two.failed c.in-Err-Disk.field-0 c.in-Err-Disk.field-0-is (c.in-Err-Disk.ensures.flags (subst IsTrue (sym c.look.ensures.keeps.stays.honest) honest) (c.in-Ok-look.ensures.flag honest)),
+    )
 
 pub returns-in-Err-redo-clause-err : goal.returns-in-Err-redo-clause-err
 returns-in-Err-redo-clause-err g c =
@@ -47,9 +54,12 @@ returns-in-Err-redo-clause-err g c =
     sees_read old one c.look.new.table.items gate book c.in-Ok-Readable.len image c.look.ensures.keeps tells (c.in-Ok-look.ensures.gate tells) (c.in-Ok-look.ensures.table tells) named (c.in-Ok-read_image.ensures.image (subst IsTrue (sym c.look.ensures.keeps.stays.tells) tells)) in
     let whole = g.D.Disk.whole c.args.disk in
     let works : IsTrue old.honest → two.failed ≡ false = λ honest. c.in-Ok-read_image.ensures.flags (subst IsTrue (sym c.look.ensures.keeps.stays.honest) honest) (c.in-Ok-look.ensures.flag honest) in
-    let redoes : IsTrue two.honest → Redoes gate book.table.items c.redo.result two three = λ still. subst (λ bytes. Redoes gate bytes c.redo.result two three) c.deref.ensures.value (c.redo.ensures.redoes still) in
-    (redo_reopens c.redo.result old two three gate book image keeps c.redo.ensures.stays c.redo.ensures.cause.later whole.tells whole.size seen redoes, rose_later old.faults two.faults three.faults keeps.later c.in-Err-redo.ensures.cause.failed, λ honest.
-    c.in-Err-redo.ensures.flag (subst IsTrue (sym keeps.stays.honest) honest) (works honest))
+    let redoes : IsTrue two.honest → Redoes gate book.table.items c.redo.result two three = λ still. subst (λ bytes. Redoes gate bytes c.redo.result two three) c.deref.ensures.value (c.redo.ensures.redoes still) in (
+      redo_reopens c.redo.result old two three gate book image keeps c.redo.ensures.stays c.redo.ensures.cause.later whole.tells whole.size seen redoes,
+      rose_later old.faults two.faults three.faults keeps.later c.in-Err-redo.ensures.cause.failed,
+      λ honest.
+          c.in-Err-redo.ensures.flag (subst IsTrue (sym keeps.stays.honest) honest) (works honest),
+    )
 
 pub invariant_of-result : goal.invariant_of-result
 invariant_of-result g c =

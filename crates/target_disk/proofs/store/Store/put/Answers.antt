@@ -1,9 +1,9 @@
 use Rattle.std.specs.Prelude.{IsTrue}
-use Rattle.std.proofs.Common.{◌≡◌, ◌∙◌, ◌+◌, ◌≤◌, ap, sym, subst, arith, length, false, true}
+use Rattle.std.proofs.Common.{◌≡◌, ◌∙◌, ap, sym, subst, arith}
 use Rattle.outside.specs.Causes.{Rose}
 use Rattle.target_disk.specs.Draft.{put_len}
 use Rattle.target_disk.specs.Store.{Stands}
-use Rattle.target_disk.specs.Consistent.{begun_of, draft_chain}
+use Rattle.target_disk.specs.Consistent.{draft_chain}
 use Rattle.target_disk.proofs.Answering.{err_is, flag_stays, worked}
 use Rattle.target_disk.proofs.Closing.{apart_from}
 use Rattle.target_disk.proofs.Drafting.{draft_len}
@@ -48,10 +48,12 @@ returns-then-is_err-clause-any_moment g c = λ s stands.
 pub invariant_of-self-else-is_err : goal.invariant_of-self-else-is_err
 invariant_of-self-else-is_err g c =
     let old = g.D.Disk.shown c.self.inside.disk in
-    let new = g.D.Disk.shown c.pour.new.disk in
-    (c.pour.ensures.fits, λ honest works.
-    let was : IsTrue old.honest = subst IsTrue c.pour.ensures.stays.honest honest in
-    knows_written c.self.inside.book c.pour.new.book old.content new.content (c.pour.ensures.pours was).content.before c.pour.ensures.keeps (c.self.invariant.1 was (worked old.failed new.failed (c.pour.ensures.still was) works)))
+    let new = g.D.Disk.shown c.pour.new.disk in (
+      c.pour.ensures.fits,
+      λ honest works.
+          let was : IsTrue old.honest = subst IsTrue c.pour.ensures.stays.honest honest in
+          knows_written c.self.inside.book c.pour.new.book old.content new.content (c.pour.ensures.pours was).content.before c.pour.ensures.keeps (c.self.invariant.1 was (worked old.failed new.failed (c.pour.ensures.still was) works)),
+    )
 
 pub returns-clause-causes : goal.returns-clause-causes
 returns-clause-causes g c =

@@ -1,0 +1,5 @@
+mod Answers
+mod Loops
+mod Lengths
+mod Again
+mod Only

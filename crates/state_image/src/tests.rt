@@ -1,0 +1,84 @@
+use super::*;
+use fid_space::{Bytes, Cluster};
+use object_store::ImageFault;
+use reply_cache::{Judgement, Seats};
+use std::test::Fail;
+use tree_model::{Errno, Reply};
+
+/// A front of 80 bytes: target 1 of 2, with one seat.
+fn sample(cluster: Cluster) -> Front {
+    let mut seats = Seats::new();
+    seats.put(7, 9, &Reply::Err(Errno::EEXIST));
+    Front {
+        cluster,
+        index: 1,
+        epoch: 6,
+        transno: 3,
+        clock: 4,
+        next_batch: 5,
+        mark: 2,
+        seats,
+    }
+}
+
+#[test]
+fn reads_what_it_wrote(rt: HostRuntime) -> Result<(), Fail> {
+    let cluster = Cluster::new(2).expect(&rt, "two targets");
+    let front = sample(cluster);
+    let mut bytes = Bytes::new(rt.alloc());
+    front.encode(&mut bytes)?;
+    bytes.append(b"behind")?;
+    assert_eq!(rt; front.size(), 80);
+    match Front::read(cluster, 1, bytes.bytes()) {
+        Ok((again, rest)) => {
+            assert_eq!(rt; rest, b"behind".as_slice());
+            assert_eq!(rt; (again.epoch, again.transno, again.clock), (6, 3, 4));
+            assert_eq!(rt; (again.next_batch, again.mark), (5, 2));
+            assert!(rt;
+                matches!(
+                    again.seats.judge(7, 9),
+                    Judgement::Repeat(Reply::Err(Errno::EEXIST))
+                )
+            );
+            assert!(rt; matches!(again.seats.judge(8, 9), Judgement::New));
+        }
+        Err(_) => assert!(rt; false),
+    }
+    one_spelling_per_front();
+    Ok(())
+}
+
+#[test]
+fn names_the_first_bad_field(rt: HostRuntime) -> Result<(), Fail> {
+    let cluster = Cluster::new(2).expect(&rt, "two targets");
+    let rows: [(usize, u8, usize); 14] = [
+        (1, 0, 0),
+        (4, 2, 4),
+        (8, 0, 8),
+        (12, 0, 12),
+        (16, 3, 16),
+        (21, 1, 21),
+        (31, 0x40, 24),
+        (40, 0, 40),
+        (55, 0x80, 48),
+        (63, 1, 63),
+        (64, 64, 64),
+        (68, 0, 68),
+        (72, 3, 72),
+        (56, 2, 80),
+    ];
+    for (at, byte, place) in rows {
+        let mut bytes = Bytes::new(rt.alloc());
+        sample(cluster).encode(&mut bytes)?;
+        let mut changed = Vec::new(rt.alloc());
+        changed.extend_from_slice(bytes.bytes())?;
+        if let Some(old) = changed.as_mut_slice().get_mut(at) {
+            *old = byte;
+        }
+        match Front::read(cluster, 1, &changed) {
+            Ok(_) => assert!(rt; false, "{at}"),
+            Err(fault) => assert_eq!(rt; fault, ImageFault::BadImage(place), "{at}"),
+        }
+    }
+    Ok(())
+}

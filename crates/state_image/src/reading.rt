@@ -24,7 +24,7 @@ pub(crate) struct Taken {
     pub reply: Reply,
 }
 
-/// The greatest of most numbers.
+/// The most that a transaction number, a clock, a batch or a mark is.
 const MOST: u64 = 1 << 62;
 
 /// The epoch, behind magic and format and before which target it is.

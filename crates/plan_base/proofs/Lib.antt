@@ -1,0 +1,4 @@
+pub mod Walks
+pub mod Empties
+pub mod Parting
+pub mod Names

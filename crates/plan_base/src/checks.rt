@@ -1,0 +1,97 @@
+ghost use Rattle.std.specs.Prelude.{◌≡◌, ◌<◌};
+ghost use Rattle.object_store.specs.Meaning.{is_directory};
+ghost use Rattle.tree_model.specs.Step.{layout_fault, stripes_fault};
+ghost use Rattle.plan_base.specs.Stops.{Reaches, Passes};
+ghost use Rattle.plan_base.specs.Asks.{directory_told, none_told, empty_told, walk_told, parent_seen};
+
+use crate::facts::Facts;
+use crate::places::parts_of;
+use crate::question::Stop;
+use crate::seen::Seen;
+use fid_space::{Cluster, Fid};
+use object_store::ObjectKind;
+use striped_dir::Layout;
+use tree_model::Errno;
+
+/// Whether a node is a directory.
+pub fn is_directory(seen: &Seen) -> bool
+    ensures { result ≡ is_directory seen.now.body.kind }
+{
+    match seen.body.kind {
+        ObjectKind::Directory => true,
+        ObjectKind::File | ObjectKind::Stripe => false,
+    }
+}
+
+/// The check of stripes that a new directory gets.
+pub fn layout_fault(cluster: Cluster, stripes: Option<(u32, u32)>) -> Option<Errno>
+    ensures { result ≡ layout_fault cluster stripes }
+{
+    let (count, index) = stripes?;
+    let targets = u32::from(cluster.targets());
+    if count <= targets && index < targets {
+        None
+    } else {
+        Some(Errno::EINVAL)
+    }
+}
+
+impl Facts {
+    /// The node with a FID, which must be a directory.
+    pub fn directory(&self, fid: Fid) -> Result<Seen, Stop>
+        ensures { Reaches (λ x. x) result (directory_told self.now fid) }
+    {
+        match self.node(fid)? {
+            None => Err(Stop::Refused(Errno::ENOENT)),
+            Some(seen) if is_directory(&seen) => Ok(seen),
+            Some(_) => Err(Stop::Refused(Errno::ENOTDIR)),
+        }
+    }
+
+    /// Whether a directory has no entry. All its parts are asked.
+    pub fn is_empty(&self, fid: Fid, layout: Layout) -> Result<bool, Stop>
+        ensures { Reaches (λ x. x) result (empty_told self.now fid layout) }
+    {
+        let parts = parts_of(layout);
+        let mut is_empty = true;
+        for index in 0..parts {
+            let entries = self.count(fid, layout, index)?;
+            is_empty = is_empty && entries == 0;
+        }
+        Ok(is_empty)
+    }
+
+    /// Walks from a directory up to the root, past at most 1,024 directories. Each is compared with the moved
+    /// one before it is asked for.
+    pub fn walk(&self, moved: Fid, from: Fid) -> Result<(), Stop>
+        ensures { Passes result (walk_told self.now moved 1023 from) }
+    {
+        let mut at = from;
+        for _asked in 0..1023_usize {
+            if at == Fid::ROOT {
+                return Ok(());
+            }
+            if at == moved {
+                return Err(Stop::Refused(Errno::EINVAL));
+            }
+            at = parent_of(self.node(at)?);
+        }
+        if at == Fid::ROOT {
+            return Ok(());
+        }
+        if at == moved {
+            return Err(Stop::Refused(Errno::EINVAL));
+        }
+        Err(Stop::Refused(Errno::ELOOP))
+    }
+}
+
+/// The parent of a directory.
+fn parent_of(seen: Option<Seen>) -> Fid
+    ensures { result ≡ parent_seen seen }
+{
+    match seen {
+        Some(seen) => seen.body.fid,
+        None => Fid::ROOT,
+    }
+}

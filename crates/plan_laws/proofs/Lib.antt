@@ -1,0 +1,6 @@
+pub mod Counting
+pub mod Reaching
+pub mod Deciding
+pub mod Renaming
+pub mod Telling
+pub mod Readback

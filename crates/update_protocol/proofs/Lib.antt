@@ -37,6 +37,7 @@ pub mod SayingAccept
 pub mod Fitting
 pub mod SayingUp
 pub mod SayingLog
+pub mod SayingReply
 pub mod SayingRecovery
 pub mod SayingRecovered
 pub mod Making

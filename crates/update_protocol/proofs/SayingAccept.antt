@@ -56,10 +56,10 @@ module _ (σ : Setting) (h : History) (w : World) (r : Reached σ.targets h w) (
   abbrev now : State
   now = state_of σ.targets o w
 
-  history_is : h ++ entries_of w.since ≡ history_of now
+  pub history_is : h ++ entries_of w.since ≡ history_of now
   history_is = ap (λ b. b ++ entries_of w.since) (sym (base_kept σ r.events (fresh r.start h) w r.run)) ∙ ap (λ l. w.base ++ l) (sym (items_are w.disk 0 w.since))
 
-  whole_is : after_items w.base w.since ≡ history_of now
+  pub whole_is : after_items w.base w.since ≡ history_of now
   whole_is = after_joined w.base w.since ∙ ap (λ l. w.base ++ l) (sym (items_are w.disk 0 w.since))
 
   module _ (m : ℕ) (x : Accepted) (may : May σ.targets w (Accept m x)) where

@@ -8,14 +8,16 @@
 #![tactic(auto)]
 
 ghost use Rattle.std.specs.Prelude.{[], Bool, List, Some, false, length, suc, take, true, ℕ, ◌++◌, ◌+◌, ◌∷◌, ◌<◌, ◌≡◌, ◌≢◌};
+ghost use Rattle.std.specs.FinMap.{get};
 ghost use Rattle.tree_model.specs.History.{IsLegal};
+ghost use Rattle.tree_model.specs.Participants.{home_of};
 ghost use Rattle.tree_model.specs.Kept.{HasNumber, IsKept, laid_of};
 ghost use Rattle.tree_model.specs.Striped.{on};
 ghost use Rattle.tree_model.specs.declared.errno.Errno.{Errno};
 ghost use Rattle.tree_model.specs.declared.op.Request.{Request};
 ghost use Rattle.tree_model.specs.declared.reply.Reply.{Reply};
 ghost use Rattle.update_protocol.specs.Epochs.{Epoch, Reached, Story, kept_of};
-ghost use Rattle.update_protocol.specs.Events.{Accept, Adopt, Commit, Execute_comes, May, Start, Stop, Tear, fresh, happens};
+ghost use Rattle.update_protocol.specs.Events.{Accept, Adopt, Commit, Execute_comes, May, Start, Stop, Tear, fresh, happens, has_now};
 ghost use Rattle.op_laws.specs.Laws.{IsCount};
 ghost use Rattle.update_protocol.specs.Laws.{Laws};
 ghost use Rattle.update_protocol.specs.Lists.{IsIn, Rising, put};
@@ -40,7 +42,7 @@ use tree_model::{
     layouts_are_beside_the_tree, only_looks_matter, only_written_keys_change,
     the_step_is_decided_by_looks,
 };
-use tree_shares::{parts_are_of_targets, shares_tell};
+use tree_shares::{parts_are_of_targets, seats_are_last, shares_tell};
 use tree_sound::{histories_keep_trees_sound, parents_name_their_directories};
 use update_record::targets_are_those_of_the_parts;
 
@@ -221,6 +223,9 @@ pub fn events_say_rows()
         → (t : ℕ) (others : List Line) → Says (state_of targets o w) (Up t (o.start t + length (w.disk t)) (numbers_at w.since (live (w.disk t) (w.kept_gone t)))) others (state_of targets (record o { standing = put o.standing t Opened }) w) }
     ensures new_image { (targets : ℕ) → IsCount targets → (h : History) (w : World) → Reached targets h w → (sent : ℕ → Request) → IsSent sent (h ++ entries_of w.since) → (o : Spoken)
         → (t : ℕ) → May targets w (Adopt t) → (others : List Line) → Says (state_of targets o w) (Up t (o.start t + length (w.torn t)) (numbers_at w.since (live (w.torn t) (w.torn_gone t)))) others (state_of targets (record o { standing = put o.standing t Opened }) (happens w (Adopt t))) }
+    ensures repeated { (targets : ℕ) → IsCount targets → (h : History) (w : World) → Reached targets h w → (sent : ℕ → Request) → IsSent sent (h ++ entries_of w.since) → (o : Spoken)
+        → (t : ℕ) → w.up t ≡ true → (q : Request) → home_of targets q.op ≡ Some t → (reply : Reply) → get (has_now targets w t).seats q.client ≡ Some (q.number, reply)
+        → q ≡ sent q.number → IsIn q o.sent → is_read q.op ≡ false → o.standing t ≡ Serving → (others : List Line) → Says (state_of targets o w) (Replies q.number reply) others (state_of targets o w) }
     ensures shared { (targets : ℕ) → IsCount targets → (h : History) (w : World) → Reached targets h w → (sent : ℕ → Request) → IsSent sent (h ++ entries_of w.since) → (o : Spoken)
         → (t number k : ℕ) → IsIn k (pending w t) → (others : List Line) → Says (state_of targets o w) (Shared t number (number_at w.since k)) others (state_of targets o w) }
     ensures log { (targets : ℕ) → IsCount targets → (h : History) (w : World) → Reached targets h w → (sent : ℕ → Request) → IsSent sent (h ++ entries_of w.since) → (o : Spoken)
@@ -228,6 +233,7 @@ pub fn events_say_rows()
         → Says (state_of targets o w) (Log t (listed o.epoch w.since indexes (live (w.done t) (w.gone t)))) others (state_of targets o w) }
 {
     operations_have_laws();
+    seats_are_last();
     targets_are_those_of_the_parts();
 }
 

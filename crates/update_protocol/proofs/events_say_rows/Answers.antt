@@ -5,6 +5,7 @@ use Rattle.update_protocol.proofs.Saying.{committed, executes, far, stopped, tor
 use Rattle.update_protocol.proofs.SayingAccept.{accepts}
 use Rattle.update_protocol.proofs.Naming.{number_in}
 use Rattle.update_protocol.proofs.SayingLog.{log_says}
+use Rattle.update_protocol.proofs.SayingReply.{answers}
 use Rattle.update_protocol.proofs.SayingUp.{kept_image, new_image}
 use Rattle.update_protocol.proofs.events_say_rows.Goals as goal
 
@@ -17,6 +18,7 @@ returns c = record {
   torn = λ targets count h w r sent known o t others. torn (setting targets (c.operations_have_laws.ensures.laws targets count)) h w r sent known o t others;
   kept_image = λ targets count h w r sent known o t others. kept_image (setting targets (c.operations_have_laws.ensures.laws targets count)) h w r sent known o c.targets_are_those_of_the_parts.ensures t others;
   new_image = λ targets count h w r sent known o t may others. new_image (setting targets (c.operations_have_laws.ensures.laws targets count)) h w r sent known o c.targets_are_those_of_the_parts.ensures t others may;
+  repeated = λ targets count h w r sent known o t up q home reply seat is was_sent changes serves others. (answers (setting targets (c.operations_have_laws.ensures.laws targets count)) c.seats_are_last.ensures.last h w r sent known o t up q home reply seat is was_sent changes serves, refl);
   shared = λ targets count h w r sent known o t number k pends others. (number_in w.since (far (setting targets (c.operations_have_laws.ensures.laws targets count)) h w r sent known) (pending w t) k pends, refl);
   log = λ targets count h w r sent known o t indexes rises many stands others. log_says (setting targets (c.operations_have_laws.ensures.laws targets count)) h w r sent known o c.targets_are_those_of_the_parts.ensures t indexes rises many stands others;
 }

@@ -1,6 +1,7 @@
 pub mod Images
 pub mod Reading
 pub mod Reopening
+pub mod Committing
 pub mod Seats
 pub mod Printed
 pub mod Lists

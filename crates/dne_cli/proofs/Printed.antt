@@ -1,12 +1,12 @@
 -- Lines that were printed, and what a step that leaves a target alone does.
-use Rattle.std.specs.Prelude.{OnOk, true}
+use Rattle.std.specs.Prelude.{OnOk, true, false}
 use Rattle.std.proofs.Common.{◌≡◌, ℕ, Bool, List, [], ◌∷◌, ◌++◌, Result, Ok, Err, inl, refl, sym, ap, ◌∙◌, subst, arith, append_assoc, append-nil}
 use Rattle.outside.specs.Disk.{Shown}
 use Rattle.scenario_text.specs.LineText.{texts, line_text}
 use Rattle.scenario_text.specs.declared.line.Line.{Line}
 use Rattle.scenario_text.specs.declared.line.Line.TheVariants as lines
 use Rattle.scenario_text.specs.declared.line.Standing.TheVariants.{Down}
-use Rattle.dne_cli.specs.Kept.{Held, Ledger, Committed, CommitsLedger, Commits, Ends, Crashes, Starts, Restarts, standing_of, stopped, serving_on, all_stable, image_bytes}
+use Rattle.dne_cli.specs.Kept.{Held, Ledger, Committed, CommitsLedger, Commits, Ends, Crashes, Starts, Reformats, Restarts, standing_of, stopped, serving_on, all_stable, image_bytes}
 use Rattle.dne_cli.specs.Disks.{Calls, Touches}
 use Rattle.dne_cli.specs.Restart.{held_of}
 use Rattle.dne_cli.specs.declared.target.Served.{Served}
@@ -33,6 +33,9 @@ touches_itself d = record { stays = record { tells = refl; honest = refl; name =
 
 pub starts_formatted : {T E : Type 0} (calls : Calls) (result : Result T E) (before after : List ℕ) (number : ℕ) (old new : Held) (formatted : Bool) → formatted ≡ true → OnOk result ((ls : List Line) × Starts calls old.disk number new ls × (after ≡ before ++ texts ls)) → OnOk result ((ls : List Line) × Restarts calls Down formatted number old new ls × (after ≡ before ++ texts ls))
 starts_formatted calls result before after number old new formatted is given = subst (λ (f : Bool). OnOk result ((ls : List Line) × Restarts calls Down f number old new ls × (after ≡ before ++ texts ls))) (sym is) given
+
+pub restores_unformatted : {T E : Type 0} (calls : Calls) (result : Result T E) (before after : List ℕ) (number : ℕ) (old new : Held) (formatted : Bool) → formatted ≡ false → OnOk result ((ls : List Line) × Reformats calls old.disk number new ls × (after ≡ before ++ texts ls)) → OnOk result ((ls : List Line) × Restarts calls Down formatted number old new ls × (after ≡ before ++ texts ls))
+restores_unformatted calls result before after number old new formatted is given = subst (λ (f : Bool). OnOk result ((ls : List Line) × Restarts calls Down f number old new ls × (after ≡ before ++ texts ls))) (sym is) given
 
 -- TARGETS
 

@@ -7,8 +7,12 @@ pub fn a_settled_disk_opens_so()
     ensures { (disk : Shown) → (saved : Saved) → IsSettled disk saved → OpensAs disk saved }
 {}
 
-/// A commit may begin on a settled disk, and each image of a disk on which it may begin opens so.
+/// A commit may begin on a settled disk.
 pub fn a_settled_disk_stands()
-    ensures settled { (disk : Shown) → (saved : Saved) → IsSettled disk saved → Stands disk saved }
-    ensures opens { (disk : Shown) → (saved : Saved) → Stands disk saved → OpensAs disk saved }
+    ensures { (disk : Shown) → (saved : Saved) → IsSettled disk saved → Stands disk saved }
+{}
+
+/// Each image of a disk on which a commit may begin opens as the disk does.
+pub fn a_disk_that_stands_opens_so()
+    ensures { (disk : Shown) → (saved : Saved) → Stands disk saved → OpensAs disk saved }
 {}

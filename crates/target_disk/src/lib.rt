@@ -17,5 +17,5 @@ mod table;
 #[cfg(test)]
 mod tests;
 
-pub use laws::{a_settled_disk_opens_so, a_settled_disk_stands};
+pub use laws::{a_disk_that_stands_opens_so, a_settled_disk_opens_so, a_settled_disk_stands};
 pub use store::{CommitFault, FormatFault, OpenStoreFault, Store};

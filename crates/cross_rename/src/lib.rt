@@ -10,6 +10,3 @@ mod planner;
 mod renames;
 
 pub use planner::RenamePlanner;
-
-#[cfg(test)]
-mod tests;

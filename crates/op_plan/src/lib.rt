@@ -10,6 +10,3 @@ mod nodes;
 mod planner;
 
 pub use planner::Planner;
-
-#[cfg(test)]
-mod tests;

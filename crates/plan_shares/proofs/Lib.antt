@@ -1,0 +1,4 @@
+pub mod Sharing
+pub mod Decisions
+pub mod Every
+pub mod Replies

@@ -1,7 +1,7 @@
-use Rattle.std.specs.Prelude.{[], ◌∷◌}
-use Rattle.std.proofs.Common.{◌≡◌, ◌<◌, ◌≤◌, arith, drop, length}
+use Rattle.std.specs.Prelude.{[]}
+use Rattle.std.proofs.Common.{◌≤◌, arith, drop}
 use Rattle.chain_blocks.specs.Chains.{numbers}
-use Rattle.chain_blocks.proofs.Writing.{TookChain, took_chain}
+use Rattle.chain_blocks.proofs.Writing.{took_chain}
 use Rattle.chain_blocks.proofs.tests.read_back.Goals as goal
 
 pub write_chain-requires-clause-within : goal.write_chain-requires-clause-within

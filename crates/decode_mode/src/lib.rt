@@ -12,8 +12,6 @@ mod laws;
 mod logs;
 mod records;
 mod requests;
-#[cfg(test)]
-mod tests;
 
 pub use laws::{one_answer_per_log, one_answer_per_record, one_answer_per_request};
 pub use logs::decode_log;

@@ -10,6 +10,3 @@ mod session;
 mod top;
 
 pub use top::play_model;
-
-#[cfg(test)]
-mod tests;

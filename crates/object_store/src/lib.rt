@@ -36,6 +36,3 @@ pub use image::one_image_per_objects;
 pub use laws::{an_image_grows_at_most_as_its_updates_are_long, one_spelling_per_body};
 pub use objects::Objects;
 pub use pieces::ImagePieces;
-
-#[cfg(test)]
-mod tests;

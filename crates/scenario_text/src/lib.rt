@@ -28,6 +28,3 @@ pub use line::{
 };
 pub use refusal::{is_skipped, print_no_end, print_refusal};
 pub use transcripts::{empty_transcript, first_transcript};
-
-#[cfg(test)]
-mod tests;

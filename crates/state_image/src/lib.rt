@@ -14,6 +14,3 @@ mod spelling;
 
 pub use front::Front;
 pub use laws::one_spelling_per_front;
-
-#[cfg(test)]
-mod tests;

@@ -19,6 +19,3 @@ pub use layout::{BadValue, Layout};
 pub use placing::{part, place};
 pub use plan::{Decision, Need, Step};
 pub use stripes::{make_parts, remove_parts};
-
-#[cfg(test)]
-mod tests;

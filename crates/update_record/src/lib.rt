@@ -33,6 +33,3 @@ pub use laws::{
 };
 pub use message::{Attempt, Facts, Message, MessageKind, Messages};
 pub use operation::{OpId, Record};
-
-#[cfg(test)]
-mod tests;

@@ -1,7 +1,10 @@
-use super::*;
 use fid_space::{Bytes, Cluster, Fid};
 use out_update::{Kind, Update};
 use std::test::Fail;
+use striped_dir::{
+    BadValue, Layout, fnv1a_64, make_parts, one_spelling_per_layout, part,
+    parts_stand_with_their_objects, place, print_hash, remove_parts, stripes_are_spelled,
+};
 use tree_model::Name;
 
 #[test]

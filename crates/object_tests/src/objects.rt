@@ -1,9 +1,9 @@
 ghost use Rattle.std.specs.Prelude.{All, IfOk};
 ghost use Rattle.out_update.specs.Spelling.{FitsUpdate};
 
-use crate::{Body, ObjectKind, Objects};
 use byte_grammar::{padding_of, put16, put32, put64};
 use fid_space::{Bytes, Cluster, Fid};
+use object_store::{Body, ObjectKind, Objects};
 use out_update::{UpdateRequest, read_pieces};
 use std::alloc::{AllocError as Memory, Global};
 use std::test::Fail;

@@ -1,5 +1,7 @@
-use super::*;
 use fid_space::{Bytes, Cluster, Fid, Targets};
+use scenario_text::{
+    Command, Cut, Line, LineCutter, TextFault, is_skipped, print_no_end, print_refusal,
+};
 use std::alloc::{AllocError as Memory, Global};
 use std::test::Fail;
 use tree_model::{Op, Reply};

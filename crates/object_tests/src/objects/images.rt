@@ -1,5 +1,5 @@
 use super::*;
-use crate::ImageFault;
+use object_store::ImageFault;
 use std::process::Abort;
 
 /// An image begins with its count and a zero.

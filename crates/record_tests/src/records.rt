@@ -1,8 +1,14 @@
-use super::*;
 use fid_space::Bytes;
 use std::alloc::{AllocError as Memory, Global};
 use std::test::Fail;
 use tree_model::{Errno, Reply};
+use update_record::{
+    Facts, Message, MessageKind, Messages, Record, RecordFault, a_message_is_read_back,
+    a_record_is_read_back, answer_with, answers_are_read_back, code_of_answer, facts_are_read_back,
+    is_answer_code, one_spelling_per_facts, one_spelling_per_message, one_spelling_per_record,
+    targets_are_those_of_the_parts, verdicts_are_of_spelled_facts,
+    verdicts_are_of_spelled_messages, verdicts_are_of_spelled_records,
+};
 
 /// Epoch 1, master 0, number 5, batch 7, stamp 9, client 3, code 0; on target 0 a delete of name `a` from
 /// the root, on target 1 a destroy.

@@ -1,4 +1,4 @@
-use crate::{
+use decode_mode::{
     decode_log, decode_record, decode_request, one_answer_per_log, one_answer_per_record,
     one_answer_per_request,
 };

@@ -1,4 +1,4 @@
-use crate::play_model;
+use model_mode::play_model;
 use outside::{Status, TextSink, TextSource};
 use std::alloc::Global;
 use std::test::Fail;

@@ -1,7 +1,7 @@
-use super::*;
 use fid_space::{Bytes, Cluster};
 use object_store::ImageFault;
 use reply_cache::{Judgement, Seats};
+use state_image::{Front, one_spelling_per_front};
 use std::test::Fail;
 use tree_model::{Errno, Reply};
 

@@ -1,0 +1,8 @@
+//! Tests of objects and of striped directories. They stand beside the crates that they test, so that a crate
+//! is proved once, and not once more together with its tests.
+#![tactic(auto)]
+
+#[cfg(test)]
+mod objects;
+#[cfg(test)]
+mod striped;

@@ -12,6 +12,3 @@ mod sharing;
 pub use laws::{a_sync_is_for_the_first_writer, a_writer_is_the_last_noted};
 pub use pending::Pending;
 pub use sharing::{Seen, must_sync};
-
-#[cfg(test)]
-mod tests;

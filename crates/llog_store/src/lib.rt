@@ -23,6 +23,3 @@ pub use llog::{
     Llog, a_payload_stands_at_its_place, half_cancelled_packs, lengths_of_logs,
     one_spelling_per_log,
 };
-
-#[cfg(test)]
-mod tests;

@@ -37,6 +37,3 @@ pub use result::{UpdateReply, UpdateResult};
 pub use shape::{BodyField, Shape};
 pub use update::{Kind, Params, Update, UpdateRequest};
 pub use value::{reply_of, request_of};
-
-#[cfg(test)]
-mod tests;

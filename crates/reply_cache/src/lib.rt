@@ -11,6 +11,3 @@ mod seats;
 
 pub use laws::a_seat_has_the_greatest_number;
 pub use seats::{Judgement, Seat, Seats};
-
-#[cfg(test)]
-mod tests;

@@ -1,5 +1,5 @@
-use super::*;
 use fid_space::Bytes;
+use llog_store::{AppendFault, Llog, LlogFault, NotLive};
 use std::alloc::Global;
 use std::test::*;
 

@@ -1,4 +1,4 @@
-use super::*;
+use reply_cache::{Judgement, Seat, Seats, a_seat_has_the_greatest_number};
 use tree_model::{Errno, Reply};
 
 #[test]

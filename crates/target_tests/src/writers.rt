@@ -1,4 +1,6 @@
-use super::*;
+use commit_sharing::{
+    Pending, Seen, a_sync_is_for_the_first_writer, a_writer_is_the_last_noted, must_sync,
+};
 use fid_space::{Fid, Targets};
 use std::test::Fail;
 

@@ -1,5 +1,9 @@
-use super::*;
 use fid_space::{Bytes, Fid};
+use out_update::{
+    Decoder, Kind, Params, Parts, Progress, ReplyDecoder, ReplyProgress, Update, UpdateRequest,
+    a_fid_is_read_back, kind_of, one_spelling_per_reply, one_spelling_per_request, read_pieces,
+    reply_of, request_of, verdicts_are_of_spelled_replies, verdicts_are_of_spelled_requests,
+};
 use std::alloc::{AllocError as Memory, Global};
 use std::test::Fail;
 

@@ -55,7 +55,7 @@ pub enum Line {
         transno: u64,
         numbers: Numbers,
     },
-    /// No open gate of the disk stands over a readable slot; bit i is set where gate i is open.
+    /// The table that the disk's gate names isn't readable: with 1 the journal table, with 0 the home table.
     DamagedGates {
         target: u8,
         gates: u8,

@@ -4,15 +4,10 @@ use Rattle.outside.specs.Disk.{Shown}
 use Rattle.chain_blocks.specs.Stored.{stored}
 use Rattle.target_disk.specs.Tables.{data_at}
 use Rattle.target_disk.specs.Store.{HasPut}
-use Rattle.target_disk.specs.Steps.{KeepsImage}
-use Rattle.target_disk.specs.Consistent.{Fits, IsDraft, IsTaken, Knows, begun_from, full_blocks}
+use Rattle.target_disk.specs.Consistent.{Fits, IsDraft, IsTaken, begun_from, full_blocks}
 use Rattle.target_disk.specs.declared.book.Book.{Book}
 use Rattle.target_disk.specs.declared.book.Draft.{Draft}
 use Rattle.target_disk.specs.declared.book.Ends.{Ends}
-
--- what is known of the image stays so
-pub knows_kept : (one two : Book) (content : List ℕ) → KeepsImage one two → Knows one content → Knows two content
-knows_kept one two content keeps k = record { shut = k.shut; found = k.found; home = k.home; generation = k.generation ∙ sym keeps.generation; chain = k.chain ∙ sym keeps.chain }
 
 -- no byte was put yet
 pub begins : (book : Book) (draft : Draft) → book.draft ≡ None → draft.ends ≡ None → draft.full ≡ 0 → draft.fill ≡ 0 → Fits 4095 book → Fits 4095 (record { blocks = book.blocks; head = book.head; generation = book.generation; table = book.table; block = book.block; draft = Some draft })

@@ -3,7 +3,7 @@ use Rattle.std.proofs.Common.{◌≡◌, ◌≢◌, ◌≤◌, ◌+◌, ◌*◌,
 use Rattle.std.proofs.lemmas.Bool.{cond-true, cond-false, eq-eqb, ne_eqb}
 use Rattle.chain_blocks.specs.Chains.{Linked, Holds, IsTrail, IsChain, AreChains, joined, block_len, last_link}
 use Rattle.chain_blocks.proofs.Counting.{joined-append}
-use Rattle.target_disk.specs.Consistent.{Fits, IsDraft, IsTaken, full_blocks, full_of, image_chain, draft_chain, trail_from}
+use Rattle.target_disk.specs.Consistent.{Fits, IsDraft, IsTaken, full_blocks, image_chain, trail_from}
 use Rattle.target_disk.specs.declared.book.Book.{Book}
 use Rattle.target_disk.specs.declared.book.Draft.{Draft}
 use Rattle.target_disk.specs.declared.book.Ends.{Ends}
@@ -45,6 +45,3 @@ draft_is most book d f is = subst (λ (o : Option Draft). IsDraft most o f.taken
 
 pub full_is : (most : ℕ) (book : Book) (d : Draft) → (f : Fits most book) → book.draft ≡ Some d → (full_blocks book.blocks.links d.ends ≡ joined f.taken) × (length (joined f.taken) ≡ d.full)
 full_is most book d f is = full_taken book.blocks f.free d.ends f.taken ((book.head ∷ f.behind) ∷ []) d.full f.holds (draft_is most book d f is).0
-
-pub draft_chain_is : (most : ℕ) (book : Book) (d : Draft) → (f : Fits most book) → book.draft ≡ Some d → draft_chain book ≡ joined f.taken
-draft_chain_is most book d f is = ap (full_of book.blocks.links) is ∙ (full_is most book d f is).0

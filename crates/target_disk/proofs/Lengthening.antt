@@ -1,7 +1,7 @@
 -- A block behind those that were taken for a commit.
 use Rattle.std.proofs.Common.{◌≡◌, ◌<◌, ℕ, List, [], ◌∷◌, ◌++◌, Option, Some, None, length, refl, sym, ◌∙◌, ap, subst, arith, append-nil, length-append}
 use Rattle.std.specs.Prelude.{Result, Ok, Err}
-use Rattle.chain_blocks.specs.Chains.{Linked, Holds, IsTail, LinksBehind, Takes, joined}
+use Rattle.chain_blocks.specs.Chains.{Linked, Holds, LinksBehind, Takes, joined}
 use Rattle.chain_blocks.proofs.Taking.{taking_none}
 use Rattle.target_disk.specs.Consistent.{IsTaken}
 use Rattle.target_disk.specs.Steps.{Lengthens}
@@ -15,9 +15,6 @@ held_tail old e ends free taken rest full some t h =
 
 abbrev pub Lends : Linked → Option Ends → Type 0
 Lends old ends = (free : List ℕ) × (taken : List (List ℕ)) × (rest : List (List ℕ)) × (full : ℕ) × IsTaken ends taken full × Holds old free (taken ++ rest) × (0 < length free)
-
-pub is_tail : (old : Linked) (e : Ends) (ends : Option Ends) → ends ≡ Some e → Lends old ends → IsTail old e.tail
-is_tail old e ends some (free, taken, rest, full, t, h, lt) = let b = held_tail old e ends free taken rest full some t h in (free, b.0, rest, b.1)
 
 pub never_full : {E : Type 0} (old new : Linked) (r : Result ℕ E) (x : E) (ends : Option Ends) → Lends old ends → r ≡ Err x → ((free : List ℕ) (chains : List (List ℕ)) → Holds old free chains → Takes old new r free chains) → ⊥
 never_full old new r x ends (free, taken, rest, full, t, h, lt) is takes = taking_none old new r x free (taken ++ rest) is (omega arith) (takes free (taken ++ rest) h)

@@ -96,13 +96,6 @@ pub record Poured (piece : List ℕ) (before after : Book) (old new : Shown) : T
   pub content : KeepsOthers data_at (draft_chain after) old.content new.content
   pub put : (bytes : List ℕ) → HasPut old (begun_of before) bytes → HasPut new (begun_of after) (bytes ++ piece)
 
-pub poured_none : (book : Book) (disk : Shown) → Poured [] book book disk disk
-poured_none book disk = record {
-  settled = record { size = refl; before = refl; others = λ b none. refl };
-  content = record { size = refl; before = refl; others = λ b none. refl };
-  put = λ bytes has. subst (HasPut disk (begun_of book)) (sym (append-nil bytes)) has;
-}
-
 pub poured_more : (piece more : List ℕ) (before one two : Book) (old new : Shown) → draft_chain two ≡ draft_chain one → begun_of two ≡ joins (begun_of one) more → Poured piece before one old new → Poured (piece ++ more) before two old new
 poured_more piece more before one two old new chain begun p = record {
   settled = subst (λ (l : List ℕ). KeepsOthers data_at l old.settled new.settled) (sym chain) p.settled;

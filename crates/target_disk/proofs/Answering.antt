@@ -12,10 +12,6 @@ module _ {T E : Type 0} where
   ok_is (Ok x) P is p = p
   ok_is (Err e) P is p = absurd (true≢false is)
 
-pub flag_stays : (old new : Bool) → (old ≡ false → new ≡ false) → (IsTrue old → IsTrue new) → new ≡ old
-flag_stays false new works failed = works refl
-flag_stays true new works failed = failed refl
-
 pub worked : (old new : Bool) → (IsTrue old → IsTrue new) → new ≡ false → old ≡ false
 worked false new failed is = refl
 worked true new failed is = absurd (false≢true (sym is ∙ failed refl))

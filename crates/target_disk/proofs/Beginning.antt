@@ -1,9 +1,10 @@
 -- A commit that is begun, or given up.
-use Rattle.std.proofs.Common.{◌≡◌, ℕ, List, [], ◌++◌, Option, Some, None, take, sym, ◌∙◌, ap, subst, arith}
+use Rattle.std.proofs.Common.{◌≡◌, ℕ, List, [], ◌++◌, Option, Some, None, length, take, sym, ◌∙◌, ap, subst, arith}
 use Rattle.outside.specs.Disk.{Shown}
 use Rattle.chain_blocks.specs.Stored.{stored}
 use Rattle.target_disk.specs.Tables.{data_at}
 use Rattle.target_disk.specs.Store.{HasPut}
+use Rattle.target_disk.specs.Draft.{put_len}
 use Rattle.target_disk.specs.Consistent.{Fits, IsDraft, IsTaken, begun_from, full_blocks}
 use Rattle.target_disk.specs.declared.book.Book.{Book}
 use Rattle.target_disk.specs.declared.book.Draft.{Draft}
@@ -23,6 +24,9 @@ begins book draft none ends full fill f = record {
   block = f.block;
   positive = f.positive;
 }
+
+pub begun_empty : (links block : List ℕ) (draft : Draft) → draft.ends ≡ None → draft.fill ≡ 0 → put_len (begun_from links block (Some draft)) ≡ 0
+begun_empty links block draft ends fill = omega (arith, ap (λ (o : Option Ends). length (full_blocks links o)) ends, ap (λ (n : ℕ). length (take n block)) fill)
 
 pub begun_none : (disk : Shown) (links block : List ℕ) (draft : Draft) → draft.ends ≡ None → draft.fill ≡ 0 → HasPut disk (begun_from links block (Some draft)) []
 begun_none disk links block draft ends fill =

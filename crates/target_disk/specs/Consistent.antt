@@ -1,9 +1,9 @@
 -- What a store keeps in memory, and what it knows by it of its disk.
-use Rattle.std.specs.Prelude.{◌≡◌, ◌+◌, ◌*◌, ◌<◌, ◌≤◌, ℕ, zero, suc, List, [], ◌∷◌, ◌++◌, false, IsTrue, Option, Some, None, length, take, if◌then◌else◌, ◌==◌, slice_index_or}
+use Rattle.std.specs.Prelude.{◌≡◌, ◌+◌, ◌*◌, ◌<◌, ◌≤◌, ℕ, zero, suc, List, [], ◌∷◌, ◌++◌, Bool, false, IsTrue, Option, Some, None, length, take, if◌then◌else◌, ◌==◌, slice_index_or}
 use Rattle.outside.specs.Disk.{Shown, part}
 use Rattle.chain_blocks.specs.Chains.{Holds, block_len, last_link}
 use Rattle.target_disk.specs.Tables.{Entry, entry_in, is_open, block_count, home_at, image_most, table_len}
-use Rattle.target_disk.specs.Draft.{Begun}
+use Rattle.target_disk.specs.Draft.{Begun, put_len}
 use Rattle.target_disk.specs.declared.book.Book.{Book}
 use Rattle.target_disk.specs.declared.book.Draft.{Draft}
 use Rattle.target_disk.specs.declared.book.Ends.{Ends}
@@ -70,3 +70,8 @@ pub record Knows (book : Book) (content : List ℕ) : Type 0 where
 -- of an honest disk that works
 abbrev pub IsConsistent : Book → Shown → Type 0
 IsConsistent book disk = IsTrue disk.honest → disk.failed ≡ false → Knows book disk.content
+
+-- of an honest disk a store minds whether it failed; then no byte of an image is put
+pub record Minds (failed : Bool) (book : Book) (disk : Shown) : Type 0 where
+  pub known : IsTrue disk.honest → disk.failed ≡ failed
+  pub empty : IsTrue disk.honest → IsTrue disk.failed → put_len (begun_of book) ≡ 0

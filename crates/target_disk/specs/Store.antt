@@ -73,9 +73,3 @@ abbrev pub CommitFlags : {T : Type 0} → Bool → Bool → Result T CommitFault
 CommitFlags before now (Ok x) = (before ≡ false) × (now ≡ false)
 CommitFlags before now (Err Disk) = now ≡ true
 CommitFlags before now (Err (Full len)) = now ≡ before
-
--- of a piece that was put, for which no block may have been written
-abbrev pub PutFlags : {T : Type 0} → Bool → Bool → Result T CommitFault → Type 0
-PutFlags before now (Ok x) = now ≡ before
-PutFlags before now (Err Disk) = now ≡ true
-PutFlags before now (Err (Full len)) = now ≡ before

@@ -1,8 +1,9 @@
 //! Calls of a disk in a row.
-ghost use Rattle.std.specs.Prelude.{◌≡◌, ◌+◌, ◌≤◌, ◌∷◌, [], length, IsTrue, is_err};
+ghost use Rattle.std.specs.Prelude.{◌≡◌, ◌+◌, ◌≤◌, ◌∷◌, [], length, IsTrue, OnErr, is_err, false, true};
 ghost use Rattle.outside.specs.Causes.{HasCause};
 ghost use Rattle.outside.specs.Disk.{Stays, disk_len};
 ghost use Rattle.target_disk.specs.Calls.{Puts, Homes};
+ghost use Rattle.target_disk.specs.Reads.{Keeps};
 ghost use Rattle.target_disk.specs.Tables.{table_len};
 
 use crate::places::{GATE, HOME};
@@ -18,6 +19,21 @@ pub fn put_settled<D: Disk>(disk: &mut D, at: u64, bytes: &[u8]) -> Result<(), D
     ensures stopped { IsTrue (D.shown disk.old).honest → IsTrue (D.shown disk.old).failed → IsTrue (is_err result) }
 {
     disk.write_at(at, bytes)?;
+    disk.sync()
+}
+
+/// Asks a disk of which a call failed whether it works again, by a sync: nothing changes where that fails.
+pub fn ask<D: Disk>(disk: &mut D, failed: bool) -> Result<(), DiskFault>
+    ensures stays { Stays (D.shown disk.old) (D.shown disk.new) }
+    ensures cause { HasCause (D.shown disk.old).faults (D.shown disk.new).faults result }
+    ensures works { failed ≡ false → (disk.new ≡ disk.old) × (is_err result ≡ false) }
+    ensures held { IsTrue (D.shown disk.old).honest → IsTrue (D.shown disk.old).failed → Keeps (D.shown disk.old) (D.shown disk.new) }
+    ensures fails { IsTrue (D.shown disk.old).honest → IsTrue (D.shown disk.old).failed → IsTrue failed → IsTrue (is_err result) }
+    ensures flag { IsTrue (D.shown disk.old).honest → OnErr result ((D.shown disk.new).failed ≡ true) }
+{
+    if !failed {
+        return Ok(());
+    }
     disk.sync()
 }
 

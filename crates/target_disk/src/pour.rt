@@ -7,10 +7,11 @@ ghost use Rattle.chain_blocks.specs.Stored.{IsCount, place};
 ghost use Rattle.target_disk.specs.Tables.{data_at, image_most};
 ghost use Rattle.target_disk.specs.Draft.{joins, put_len};
 ghost use Rattle.target_disk.specs.Consistent.{Fits, Knows, begun_of, draft_chain};
+ghost use Rattle.target_disk.specs.Reads.{Keeps};
 ghost use Rattle.target_disk.specs.Steps.{Closes, Extends, KeepsImage, Pours, PoursRest};
 
 use crate::book::{Book, Draft};
-use crate::calls::{put_settled, settle_home};
+use crate::calls::{ask, put_settled, settle_home};
 use crate::places::{BLOCK, DATA, GATE, JOURNAL};
 use outside::{Disk, DiskFault};
 
@@ -90,6 +91,32 @@ pub fn pour<D: Disk>(disk: &mut D, book: &mut Book, piece: &[u8]) -> Result<(), 
         }
     }
     Ok(())
+}
+
+/// Pours a piece, where the disk works: one that failed is asked first, and is left as it is.
+pub fn pour_asked<D: Disk>(
+    disk: &mut D,
+    book: &mut Book,
+    failed: bool,
+    piece: &[u8],
+) -> Result<(), DiskFault>
+    requires fits { Fits 4095 book.old }
+    requires begun { IsSome book.old.draft }
+    requires room { put_len (begun_of book.old) + length piece.now ≤ image_most }
+    requires known { IsTrue (D.shown disk.old).honest → (D.shown disk.old).failed ≡ failed }
+    ensures stays { Stays (D.shown disk.old) (D.shown disk.new) }
+    ensures cause { HasCause (D.shown disk.old).faults (D.shown disk.new).faults result }
+    ensures flag { IsTrue (D.shown disk.old).honest → (D.shown disk.new).failed ≡ is_err result }
+    ensures fails { IsTrue (D.shown disk.old).honest → IsTrue (D.shown disk.old).failed → IsTrue (is_err result) }
+    ensures held { IsTrue (D.shown disk.old).honest → IsTrue (D.shown disk.old).failed → Keeps (D.shown disk.old) (D.shown disk.new) }
+    ensures fits { Fits 4095 book.new }
+    ensures keeps { KeepsImage book.old book.new }
+    ensures begun { OnOk result (IsSome book.new.draft) }
+    ensures grows { OnOk result (put_len (begun_of book.new) ≡ put_len (begun_of book.old) + length piece.now) }
+    ensures pours { IsTrue (D.shown disk.old).honest → (D.shown disk.old).failed ≡ false → Pours piece.now result book.old book.new (D.shown disk.old) (D.shown disk.new) }
+{
+    ask(disk, failed)?;
+    pour(disk, book, piece)
 }
 
 /// Puts zeros behind so many bytes of the block.

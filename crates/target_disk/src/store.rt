@@ -7,13 +7,14 @@ ghost use Rattle.target_disk.specs.Steps.{IsBlank, TakesImage, HoldsImage, Fills
 ghost use Rattle.target_disk.specs.Draft.{put_len};
 ghost use Rattle.target_disk.specs.Calls.{Redoes};
 ghost use Rattle.target_disk.specs.Tables.{image_most, table_len, Saved};
-ghost use Rattle.target_disk.specs.Store.{Stored, IsSettled, Stands, OpensAs, OpensAsEither, HasPut, next, CommitCauses, CommitFlags, PutFlags, PutLeaves, FinishCauses};
+ghost use Rattle.target_disk.specs.Store.{Stored, IsSettled, Stands, OpensAs, OpensAsEither, HasPut, next, CommitCauses, CommitFlags, PutLeaves, FinishCauses};
+ghost use Rattle.target_disk.specs.Reads.{Keeps};
 ghost use Rattle.target_disk.specs.Open.{Opens, StaysSettled, FailsToOpen, Formats, FailsToFormat};
 
 use crate::book::{Book, Draft, Verdict, blank, judge};
 use crate::calls::{put_settled, settle_home};
 use crate::places::{DATA, GATE, HOME, IMAGE_MOST, TABLE};
-use crate::pour::{close, pour};
+use crate::pour::{close, pour_asked};
 use crate::read::{ReadFault, look, read_image};
 use crate::table::room;
 use chain_blocks::ChainWriteFault;
@@ -59,17 +60,19 @@ pub enum CommitFault {
 pub struct Store<D: Disk> {
     disk: D,
     book: Book,
+    /// Whether a call of a commit failed.
+    failed: bool,
 }
 
 impl<D: Disk> Model for Store<D> {
     ghost use Rattle.target_disk.specs.Store.{Stored};
-    ghost use Rattle.target_disk.specs.Consistent.{Fits, IsConsistent, begun_of};
+    ghost use Rattle.target_disk.specs.Consistent.{Fits, IsConsistent, Minds, begun_of};
 
     ghost Value = { Stored D };
 
     ghost view = { λ s. record { disk = s.disk; draft = begun_of s.book } };
 
-    ghost invariant = { λ s. Fits 4095 s.book × IsConsistent s.book (D.shown s.disk) };
+    ghost invariant = { λ s. Fits 4095 s.book × IsConsistent s.book (D.shown s.disk) × Minds s.failed s.book (D.shown s.disk) };
 }
 
 impl<D: Disk> Store<D> {
@@ -89,8 +92,9 @@ impl<D: Disk> Store<D> {
             Ok(book) => book,
             Err(_) => return Err(FormatFault::Memory(disk)),
         };
+        let failed = false;
         match fill(&mut disk, &mut book, image) {
-            Ok(()) => Ok(Store { disk, book }),
+            Ok(()) => Ok(Store { disk, book, failed }),
             Err(_) => Err(FormatFault::Disk(disk)),
         }
     }
@@ -125,8 +129,9 @@ impl<D: Disk> Store<D> {
             Err(ReadFault::Disk) => return Err(OpenStoreFault::Disk(disk)),
             Err(ReadFault::Memory) => return Err(OpenStoreFault::Memory(disk)),
         };
+        let failed = false;
         match redo(&mut disk, is_open, &book.table) {
-            Ok(()) => Ok((Store { disk, book }, image)),
+            Ok(()) => Ok((Store { disk, book, failed }, image)),
             Err(_) => Err(OpenStoreFault::Disk(disk)),
         }
     }
@@ -150,13 +155,15 @@ impl<D: Disk> Store<D> {
     }
 
     /// Puts a piece of the image behind those that were put since `begin`, and writes each block that is
-    /// full. It takes no memory. After a fault no commit is begun.
+    /// full. It takes no memory. After a fault no commit is begun, and a disk that failed is left as it is:
+    /// the first call of the next commit is a sync.
     pub fn put(&mut self, piece: &[u8]) -> Result<(), CommitFault>
         requires begun { IsSome self.old.draft }
         ensures stays { Stays (D.shown self.old.disk) (D.shown self.new.disk) }
         ensures later { (D.shown self.old.disk).faults ≤ (D.shown self.new.disk).faults }
         ensures causes { CommitCauses (D.shown self.old.disk).faults (D.shown self.new.disk).faults (put_len self.old.draft + length piece.now) result }
-        ensures flags { IsTrue (D.shown self.old.disk).honest → PutFlags (D.shown self.old.disk).failed (D.shown self.new.disk).failed result }
+        ensures flags { IsTrue (D.shown self.old.disk).honest → CommitFlags (D.shown self.old.disk).failed (D.shown self.new.disk).failed result }
+        ensures held { IsTrue (D.shown self.old.disk).honest → IsTrue (D.shown self.old.disk).failed → Keeps (D.shown self.old.disk) (D.shown self.new.disk) }
         ensures full { image_most < put_len self.old.draft + length piece.now → self.new.disk ≡ self.old.disk }
         ensures draft { PutLeaves result self.new.draft }
         ensures grows { OnOk result (put_len self.new.draft ≡ put_len self.old.draft + length piece.now) }
@@ -172,10 +179,12 @@ impl<D: Disk> Store<D> {
             self.book.give_up();
             return Err(CommitFault::Full(len));
         }
-        if pour(&mut self.disk, &mut self.book, piece).is_err() {
+        if pour_asked(&mut self.disk, &mut self.book, self.failed, piece).is_err() {
             self.book.give_up();
+            self.failed = true;
             return Err(CommitFault::Disk);
         }
+        self.failed = false;
         Ok(())
     }
 
@@ -187,6 +196,7 @@ impl<D: Disk> Store<D> {
         ensures stays { Stays (D.shown self.old.disk) (D.shown self.new.disk) }
         ensures later { (D.shown self.old.disk).faults ≤ (D.shown self.new.disk).faults }
         ensures causes { FinishCauses (D.shown self.old.disk).faults (D.shown self.new.disk).faults result }
+        ensures held { IsTrue (D.shown self.old.disk).honest → IsTrue (D.shown self.old.disk).failed → Keeps (D.shown self.old.disk) (D.shown self.new.disk) }
         ensures flags { IsTrue (D.shown self.old.disk).honest → CommitFlags (D.shown self.old.disk).failed (D.shown self.new.disk).failed result }
         ensures draft { self.new.draft ≡ None }
         ensures any_moment { (s : Saved) → (bytes : List ℕ) → Stands (D.shown self.old.disk) s → HasPut (D.shown self.old.disk) self.old.draft bytes → OpensAsEither (D.shown self.new.disk) s (next s bytes) }
@@ -198,6 +208,7 @@ impl<D: Disk> Store<D> {
         };
         if close(&mut self.disk, &mut self.book, draft.len()).is_err() {
             self.book.give_up();
+            self.failed = true;
             return Err(CommitFault::Disk);
         }
         Ok(())
@@ -210,6 +221,7 @@ impl<D: Disk> Store<D> {
         ensures later { (D.shown self.old.disk).faults ≤ (D.shown self.new.disk).faults }
         ensures causes { CommitCauses (D.shown self.old.disk).faults (D.shown self.new.disk).faults (length image.now) result }
         ensures flags { IsTrue (D.shown self.old.disk).honest → CommitFlags (D.shown self.old.disk).failed (D.shown self.new.disk).failed result }
+        ensures held { IsTrue (D.shown self.old.disk).honest → IsTrue (D.shown self.old.disk).failed → Keeps (D.shown self.old.disk) (D.shown self.new.disk) }
         ensures full { image_most < length image.now → self.new.disk ≡ self.old.disk }
         ensures draft { self.new.draft ≡ None }
         ensures any_moment { (s : Saved) → Stands (D.shown self.old.disk) s → OpensAsEither (D.shown self.new.disk) s (next s image.now) }

@@ -1,6 +1,6 @@
 use Rattle.std.specs.Prelude.{IsTrue, false}
 use Rattle.std.proofs.Common.{ℕ, List, ◌≡◌, ◌∙◌, refl, sym, subst}
-use Rattle.std.proofs.lemmas.Bool.{cond-true, cond-false}
+use Rattle.std.proofs.lemmas.Bool.{cond-true, cond-false, false≢true}
 use Rattle.target_disk.specs.Calls.{Redoes}
 use Rattle.target_disk.specs.Reads.{Keeps}
 use Rattle.target_disk.specs.Steps.{IsBook, IsVerdict}
@@ -79,7 +79,12 @@ invariant_of-result g c =
     let redoes : IsTrue two.honest → Redoes gate book.table.items c.redo.result two three = λ still. subst (λ bytes. Redoes gate bytes c.redo.result two three) c.deref.ensures.value (c.redo.ensures.redoes still) in
     let does : (honest : IsTrue old.honest) → Redone old three book image = λ honest.
     redone c.in-Ok-redo.field-0 old two three gate book image honest (whole.tells honest) keeps (whole.size honest) (seen (whole.tells honest)) (subst (λ r. Redoes gate book.table.items r two three) c.in-Ok-redo.is (redoes (subst IsTrue (sym keeps.stays.honest) honest))) in
-    (named.fits, λ honest works. (does (subst IsTrue (c.redo.ensures.stays.honest ∙ keeps.stays.honest) honest)).knows)
+    let was : IsTrue three.honest → IsTrue old.honest = λ honest. subst IsTrue (c.redo.ensures.stays.honest ∙ keeps.stays.honest) honest in
+    let working : IsTrue three.honest → three.failed ≡ false = λ honest. c.in-Ok-redo.ensures.flag (subst IsTrue (sym keeps.stays.honest) (was honest)) (works (was honest)) in (
+      named.fits,
+      λ honest works. (does (was honest)).knows,
+      record { known = working; empty = λ honest failed. absurd (false≢true (sym (working honest) ∙ failed)) },
+    )
 
 pub returns-in-Ok-redo-clause-ok : goal.returns-in-Ok-redo-clause-ok
 returns-in-Ok-redo-clause-ok g c =

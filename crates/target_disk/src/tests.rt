@@ -1,4 +1,4 @@
-ghost use Rattle.std.specs.Prelude.{◌≡◌, length, IfOk};
+ghost use Rattle.std.specs.Prelude.{◌≡◌, length, IfOk, IsSome};
 
 use crate::{CommitFault, FormatFault, OpenStoreFault, Store};
 use fid_space::Bytes;
@@ -9,6 +9,9 @@ use std::test::Fail;
 /// An image of nine blocks.
 const LONG: usize = 33_000;
 
+/// The most bytes of an image.
+const MOST: usize = 32_768_000;
+
 /// So many bytes of one value.
 fn image_of(alloc: Global, len: usize, value: u8) -> Result<Vec<u8>, Memory>
     ensures { IfOk result (λ v. length v.items ≡ len) }
@@ -16,38 +19,80 @@ fn image_of(alloc: Global, len: usize, value: u8) -> Result<Vec<u8>, Memory>
     vec![in alloc; value; len]
 }
 
-/// What the second commit answered under a fuse, and the image that the disk then opened as.
-fn stopped(alloc: Global, after: u32, choice: u8) -> Option<(Result<(), CommitFault>, Bytes)> {
+/// An image in four pieces of odd lengths.
+fn commit_pieces(
+    alloc: Global,
+    store: &mut Store<MemoryDisk>,
+    value: u8,
+) -> Option<Result<(), CommitFault>> {
+    let (Ok(short), Ok(long)) = (image_of(alloc, 4097, value), image_of(alloc, 28_901, value))
+    else {
+        return None;
+    };
+    store.begin();
+    Some(put_pieces(store, &[value], &short, &long))
+}
+
+/// A byte, a piece, another, and the byte again.
+fn put_pieces(
+    store: &mut Store<MemoryDisk>,
+    byte: &[u8],
+    short: &[u8],
+    long: &[u8],
+) -> Result<(), CommitFault>
+    requires begun { IsSome store.old.draft }
+    requires one { length byte.now ≡ 1 }
+{
+    store.put(byte)?;
+    store.put(short)?;
+    store.put(long)?;
+    store.put(byte)?;
+    store.finish()
+}
+
+/// What the third commit answered under a fuse, whole or in pieces, and the image that the disk then
+/// opened as.
+fn stopped(
+    alloc: Global,
+    after: u32,
+    choice: u8,
+    in_pieces: bool,
+) -> Option<(Result<(), CommitFault>, Bytes)> {
     let (Ok(second), Ok(third)) = (image_of(alloc, LONG, 2), image_of(alloc, LONG, 3)) else {
         return None;
     };
     let disk = MemoryDisk::new(alloc, &[]).ok()?;
-    let mut store = Store::format(alloc, disk, b"one").ok()?;
+    let mut store = Store::format(alloc, disk, b"none").ok()?;
+    store.commit(b"one").ok()?;
     store.commit(&second).ok()?;
     store.arm(after, choice);
-    let answer = store.commit(&third);
+    let answer = if in_pieces {
+        commit_pieces(alloc, &mut store, 3)?
+    } else {
+        store.commit(&third)
+    };
     let mut disk = store.into_disk();
     disk.power_cycle().ok()?;
     let (_, image) = Store::open(alloc, disk).ok()?;
     Some((answer, image))
 }
 
-/// Whether the image after a stop is as it must be: that of the commit where the gate's byte is settled, and
-/// where the choice keeps it.
-fn is_right(alloc: Global, after: u32, choice: u8) -> bool {
+/// Whether a stop left the image that it must: that of the commit where the write of the gate, its
+/// thirteenth call, is settled, and where the choice keeps it; else the one before.
+fn is_right(alloc: Global, after: u32, choice: u8, in_pieces: bool) -> bool {
     let kept = after >= 14 || (after >= 12 && choice % 2 == 1);
     let want = Some(if kept { 3 } else { 2 });
-    let Some((answer, image)) = stopped(alloc, after, choice) else {
+    let Some((answer, image)) = stopped(alloc, after, choice, in_pieces) else {
         return false;
     };
     let whole = image.len() == LONG && image.get(0) == want && image.get(LONG - 1) == want;
     whole && answer.is_ok() == (after == 18)
 }
 
-/// The first call at which a stop was not as it must be.
-fn first_wrong(alloc: Global, choice: u8) -> Option<u32> {
-    for after in [0, 11, 12, 13, 14, 18u32] {
-        if !is_right(alloc, after, choice) {
+/// The first of the eighteen calls at which a stop was not as it must be; behind the last one nothing stops.
+fn first_wrong(alloc: Global, choice: u8, in_pieces: bool) -> Option<u32> {
+    for after in 0..19u32 {
+        if !is_right(alloc, after, choice, in_pieces) {
             return Some(after);
         }
     }
@@ -56,14 +101,20 @@ fn first_wrong(alloc: Global, choice: u8) -> Option<u32> {
 
 #[test]
 fn before_or_after_all_or_none_kept(rt: HostRuntime) {
-    assert_eq!(rt; first_wrong(rt.alloc(), 0), None);
-    assert_eq!(rt; first_wrong(rt.alloc(), 255), None);
+    assert_eq!(rt; first_wrong(rt.alloc(), 0, false), None);
+    assert_eq!(rt; first_wrong(rt.alloc(), 255, false), None);
 }
 
 #[test]
 fn before_or_after_half_kept(rt: HostRuntime) {
-    assert_eq!(rt; first_wrong(rt.alloc(), 85), None);
-    assert_eq!(rt; first_wrong(rt.alloc(), 170), None);
+    assert_eq!(rt; first_wrong(rt.alloc(), 85, false), None);
+    assert_eq!(rt; first_wrong(rt.alloc(), 170, false), None);
+}
+
+#[test]
+fn before_or_after_in_pieces(rt: HostRuntime) {
+    assert_eq!(rt; first_wrong(rt.alloc(), 0, true), None);
+    assert_eq!(rt; first_wrong(rt.alloc(), 255, true), None);
 }
 
 /// An image in pieces, after one that was begun and given up.
@@ -98,6 +149,26 @@ fn pieces_are_joined(rt: HostRuntime) {
     assert_eq!(rt; image.get(2), Some(b'c'));
     assert_eq!(rt; image.get(3), Some(7));
     assert_eq!(rt; image.get(9002), Some(7));
+}
+
+/// What a commit of one byte too many answers behind one of as many bytes as a store takes, and how many
+/// bytes the disk then opens with.
+fn overfilled(alloc: Global) -> Option<(Result<(), CommitFault>, usize)> {
+    let (Ok(most), Ok(more)) = (image_of(alloc, MOST, 0), image_of(alloc, MOST + 1, 0)) else {
+        return None;
+    };
+    let disk = SureDisk::new(alloc).ok()?;
+    let mut store = Store::format(alloc, disk, b"one").ok()?;
+    store.commit(&most).ok()?;
+    let answer = store.commit(&more);
+    let (_, image) = Store::open(alloc, store.into_disk()).ok()?;
+    Some((answer, image.len()))
+}
+
+#[test]
+fn takes_a_whole_store(rt: HostRuntime) {
+    let full = Err(CommitFault::Full(32_768_001));
+    assert_eq!(rt; overfilled(rt.alloc()), Some((full, MOST)));
 }
 
 #[test]

@@ -2,7 +2,7 @@ ghost use Rattle.std.specs.Prelude.{◌≡◌, vec_len};
 
 use crate::store::open_disks;
 use crate::{dne_main, memory_disks};
-use outside::{FileDisk, MemoryDisk, Plant, TextSink, TextSource};
+use outside::{FileDisk, MemoryDisk, Plant, Source, TextSink, TextSource};
 use scenario_text::{empty_transcript, first_transcript};
 use std::alloc::Global;
 use std::env;
@@ -36,13 +36,26 @@ fn run_on<D: Plant>(
 ) -> Result<(u8, TextSink), Fail>
     requires { vec_len disks.old ≡ 16 }
 {
+    let mut input = TextSource::new(alloc, text, fails.0)?;
+    run_from(alloc, line, &mut input, fails.1, disks)
+}
+
+/// The same over an input that the caller keeps.
+fn run_from<D: Plant>(
+    alloc: Global,
+    line: &str,
+    input: &mut TextSource,
+    bad_writes: &[u64],
+    disks: &mut Vec<D>,
+) -> Result<(u8, TextSink), Fail>
+    requires { vec_len disks.old ≡ 16 }
+{
     let mut words = Vec::new(alloc);
     for word in line.split(' ') {
         words.push(String::from_str(alloc, word)?)?;
     }
-    let mut input = TextSource::new(alloc, text, fails.0)?;
-    let mut output = TextSink::new(alloc, fails.1)?;
-    let status = dne_main(alloc, words.as_slice(), &mut input, &mut output, disks);
+    let mut output = TextSink::new(alloc, bad_writes)?;
+    let status = dne_main(alloc, words.as_slice(), input, &mut output, disks);
     Ok((status, output))
 }
 
@@ -116,6 +129,30 @@ fn failing_input_and_output(rt: HostRuntime) -> Result<(), Fail> {
         assert_eq!(rt; got, status, "{line}");
         assert_eq!(rt; output.bytes(), want.as_bytes(), "{line}");
     }
+    Ok(())
+}
+
+/// How many bytes are left in an input.
+fn left_in(alloc: Global, input: &mut TextSource) -> Result<usize, Fail> {
+    let mut rest = Vec::from_elem(alloc, 0, 300_000)?;
+    match input.read(rest.as_mut_slice()) {
+        Ok(count) => Ok(count),
+        Err(_) => Err("a read failed".into()),
+    }
+}
+
+/// What stands far behind a refused line is not read.
+#[test]
+fn lines_behind_a_refusal_are_left(rt: HostRuntime) -> Result<(), Fail> {
+    let alloc = rt.alloc();
+    let mut text = Vec::from_slice(alloc, b"cluster 1\nsned\n")?;
+    text.resize(200_015, b'\n')?;
+    let mut input = TextSource::new(alloc, &text, &[])?;
+    let mut disks = memory_disks(alloc)?;
+    let (got, output) = run_from(alloc, "play", &mut input, &[], &mut disks)?;
+    assert_eq!(rt; got, 2);
+    assert_eq!(rt; output.bytes(), b"line 2: NotYet\n".as_slice());
+    assert!(rt; left_in(alloc, &mut input)? >= 134_000);
     Ok(())
 }
 

@@ -7,8 +7,8 @@ use Rattle.std.proofs.Common.{Bool, List, None, Option, Some, [], ap, arith, fal
 use Rattle.std.proofs.lemmas.Bool.Decides.{eqb_tells}
 use Rattle.std.specs.Prelude.{map, take, zip}
 use Rattle.tree_model.specs.Looks.{writes}
-use Rattle.tree_shares.specs.Shares.{share}
 use Rattle.update_protocol.proofs.Basics.{none_less, ended_more, at-new, at-old, count_here, count_other, each_push, length-push, mem_last, mem_left, mem_push, pairs_push, put_same, put_at, put_two_same, rising_push, take_old, take_whole}
+use Rattle.update_protocol.proofs.Hearing.{all_true, mem_join, mem_zip}
 use Rattle.update_protocol.proofs.Holds.{all_done}
 use Rattle.update_protocol.proofs.Invariant.{Current, Durable, Executed, Holding, Invariant, Marking, Means, Numbered, Over, Safe, Says, Stably, Syncing, Tearing, Told}
 use Rattle.update_protocol.proofs.LetsGo.{none_some, not_current, some_same}
@@ -19,28 +19,12 @@ use Rattle.update_protocol.proofs.Shares.{follows_push, home_part, share_still, 
 use Rattle.update_protocol.proofs.Sharing.{chain}
 use Rattle.update_protocol.proofs.Syncs.{syncing_more}
 use Rattle.update_protocol.specs.Events.{Accept, MayAccept, Settled, happens}
-use Rattle.update_protocol.specs.Facts.{AreTrue, Asks, Decides, Fact, Fits, is_told, laid, place}
+use Rattle.update_protocol.specs.Facts.{Asks, Decides, Fits, is_told, laid, place}
 use Rattle.update_protocol.specs.Lists.{IsIn, Rising, put, put_two}
 use Rattle.tree_shares.specs.Seats.{SameSeat, Share, share_of}
 use Rattle.update_protocol.specs.Seats.{Newest}
 use Rattle.update_protocol.specs.World.{Accepted, Answer, Attempt, Cancel, Covers, Each, Execute, Full, Held, History, Hold, Matches, Message, Release, Stable, Sync, Synced, Who, World, after_items, at, count_home, entry, facts_of, is_on, master, request_of, saw_of, wrote_of}
 use Rattle.update_record.specs.Spelling.{has_target}
-
-pub mem_join : {A : Type 0} (xs ys : List A) (x : A) → IsIn x (xs ++ ys) → IsIn x xs ⊎ IsIn x ys
-mem_join [] ys x h = inr h
-mem_join (z ∷ xs) ys x (inl e) = inl (inl e)
-mem_join (z ∷ xs) ys x (inr h) = ⊎_elim (λ a. inl (inr a)) (λ b. inr b) (mem_join xs ys x h)
-
-pub mem_zip : (q : List Update) (rs : List UpdateResult) (u : Update) (r : UpdateResult) → IsIn (u, r) (zip q rs) → IsIn u q
-mem_zip [] rs u r h = absurd h
-mem_zip (v ∷ q) [] u r h = absurd h
-mem_zip (v ∷ q) (s ∷ rs) u r (inl e) = inl (ap (λ (p : Fact). p.0) e)
-mem_zip (v ∷ q) (s ∷ rs) u r (inr h) = inr (mem_zip q rs u r h)
-
-pub zip_true : (f : Update → UpdateResult) (q : List Update) (u : Update) (r : UpdateResult) → IsIn (u, r) (zip q (map f q)) → r ≡ f u
-zip_true f [] u r h = absurd h
-zip_true f (v ∷ q) u r (inl e) = ap (λ (p : Fact). p.1) e ∙ ap f (sym (ap (λ (p : Fact). p.0) e))
-zip_true f (v ∷ q) u r (inr h) = zip_true f q u r h
 
 pub asks_one : (targets : ℕ) (q : List Update) (u : Update) (f : Fid) → IsIn u q → u.fid ≡ f → is_told targets u ≡ true → Asks targets q f
 asks_one targets [] u f h e t = absurd h
@@ -65,26 +49,13 @@ module _ (σ : Setting) where
     held : (a : Answer) → IsIn a may.answers → (w.holder a.at ≡ Some x.attempt) × Told σ.targets w.base w.since w.disk a.at a.question a.writer a.clock a.results
     held a h = (i.messages (Held x.attempt a.at a.question a.writer a.clock a.results) (may.heard a h)).2 at_cur
 
-    true_fact : (a : Answer) → IsIn a may.answers → (u : Update) (r : UpdateResult) → IsIn (u, r) (zip a.question a.results) → r ≡ reads (share σ.targets (laid σ.targets (after_items w.base w.since)) (place σ.targets u.fid)) u
-    true_fact a h u r g =
-        let told = (held a h).1 in
-        subst (λ t. r ≡ reads (share σ.targets (laid σ.targets (after_items w.base w.since)) t) u) (may.placed a h u (mem_zip a.question a.results u r g))
-        (zip_true (reads (share σ.targets (laid σ.targets (after_items w.base w.since)) a.at)) a.question u r (subst (λ rs. IsIn (u, r) (zip a.question rs)) told.still g))
-
-    facts_true : (as' : List Answer) → ((a : Answer) → IsIn a as' → IsIn a may.answers) → AreTrue σ.targets (laid σ.targets (after_items w.base w.since)) (facts_of as')
-    facts_true [] sub u r h = absurd h
-    facts_true (a ∷ more) sub u r h = ⊎_elim
-        (λ (g : IsIn (u, r) (zip a.question a.results)). true_fact a (sub a (inl refl)) u r g)
-        (λ (g : IsIn (u, r) (facts_of more)). facts_true more (λ b k. sub b (inr k)) u r g)
-        (mem_join (zip a.question a.results) (facts_of more) (u, r) h)
-
     fits : Fits σ.targets now
     unfolding now
     fits = record { each = ops_after σ.targets w.base w.since i.grounded.each i.follows; few = may.few }
 
     decision : Decides σ.targets (laid σ.targets now) (facts_of may.answers) x.batch (request_of x).op (record { reply = x.reply; parts = x.parts; saw = x.saw })
     unfolding now
-    decision = may.decided (after_items w.base w.since) fits (facts_true may.answers (λ a h. h))
+    decision = may.decided (after_items w.base w.since) fits (all_true σ w i m x.attempt may.is_current may.answers (record { came = may.heard; placed = may.placed }))
 
     -- the facts are those of the history as it is now, so the item is the operation on it
     matches : Matches σ.targets now x
@@ -92,8 +63,9 @@ module _ (σ : Setting) where
     matches = record {
       fits = fits;
       is_op = may.is_op;
+      changes = may.changes;
       home = c.at_home ∙ ap Some (sym c.is_home);
-      newest = c.newest;
+      newest = c.newest may.changes;
       reply = decision.reply;
       parts = decision.parts;
       saw = decision.saw;
@@ -298,7 +270,7 @@ module _ (σ : Setting) where
             holds = (others b (subst (λ s. trying' s ≡ Some b) (sym d.is_home) e) s d.holds).0;
             not_yet = each_push (λ n y. y.attempt.who ≢ b.who) w.since x d.not_yet (λ e. q.0 (sym d.is_home ∙ ap (λ (y : Who). y.master) (sym e) ∙ c.is_home));
             at_home = d.at_home;
-            newest = subst (λ h. Newest σ.targets h b.who.request) (sym (tree_push w.since w.base x)) (all_push (λ i. SameSeat σ.targets i.request b.who.request → i.request.number < b.who.request.number) now (entry x) d.newest
+            newest = λ r. subst (λ h. Newest σ.targets h b.who.request) (sym (tree_push w.since w.base x)) (all_push (λ i. SameSeat σ.targets i.request b.who.request → i.request.number < b.who.request.number) now (entry x) (d.newest r)
                 (λ same. absurd (q.0 (some_number s m (sym d.at_home ∙ sym same.1 ∙ c.at_home)))));
           };
     }

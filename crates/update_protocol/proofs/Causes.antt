@@ -13,7 +13,7 @@ use Rattle.tree_model.specs.Keys.{Key}
 use Rattle.tree_model.specs.Looks.{looks}
 use Rattle.tree_shares.specs.Parts.{parts}
 use Rattle.tree_shares.specs.Shares.{share}
-use Rattle.update_protocol.proofs.Accepts.{mem_join, mem_zip, zip_true}
+use Rattle.update_protocol.proofs.Hearing.{mem_join, mem_zip, zip_true}
 use Rattle.update_protocol.proofs.Holds.{all_done}
 use Rattle.update_protocol.proofs.Invariant.{Invariant, Told}
 use Rattle.update_protocol.proofs.LetsGo.{some_same}

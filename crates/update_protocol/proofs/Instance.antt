@@ -144,6 +144,7 @@ may_accept sounds is_op = record {
   all_synced = λ t k m. absurd (no_sync t k m);
   next_batch = refl;
   is_op = is_op;
+  changes = refl;
   few = omega arith;
   answers = answer ∷ [];
   heard = only_answer (λ a. IsIn (Held attempt a.at a.question a.writer a.clock a.results) begun.pool) (inl refl);
@@ -159,7 +160,7 @@ no_seat = subst (λ (s : Option (ℕ × Reply)). IsBelow s 1) (sym (get-empty {X
 
 pub runs : HistoriesAreSound → IsOp 1 sets → Run 1 (fresh start []) events stopped
 runs sounds is_op =
-    ((refl, refl, refl, one_below, no_seat), (refl, ((inl refl, refl, inl refl, (λ f asks n m. absurd m), refl, one_below), (may_accept sounds is_op, (refl, (tt, refl))))))
+    ((refl, refl, refl, one_below, λ r. no_seat), (refl, ((inl refl, refl, inl refl, (λ f asks n m. absurd m), refl, one_below), (may_accept sounds is_op, (refl, (tt, refl))))))
 
 -- ---- the recovery
 

@@ -11,7 +11,7 @@ use Rattle.update_protocol.specs.Events.{Backed}
 use Rattle.update_protocol.specs.Facts.{Asks, place}
 use Rattle.update_protocol.specs.Lists.{IsIn, Rising}
 use Rattle.tree_shares.specs.Seats.{Ordered, share_of}
-use Rattle.update_protocol.specs.Seats.{Newest}
+use Rattle.update_protocol.specs.Seats.{Newest, is_read}
 use Rattle.update_protocol.specs.World.{Accepted, Attempt, Cancel, Covers, Each, Execute, Follows, Full, Held, History, Hold, Message, Named, Pairs, Release, Stable, Sync, Synced, World, after_items, at, count_home, is_on, master, saw_of, wrote_of}
 
 abbrev pub Safe : (ℕ → List ℕ) → ℕ → Accepted → Accepted → Type 0
@@ -100,7 +100,7 @@ module _ (targets : ℕ) where
     pub holds : holder m ≡ Some a
     pub not_yet : Each (λ n x. x.attempt.who ≢ a.who) since
     pub at_home : home_of targets a.who.request.op ≡ Some m
-    pub newest : Newest targets (after_items base since) a.who.request
+    pub newest : is_read a.who.request.op ≡ false → Newest targets (after_items base since) a.who.request
 
   -- who holds a target
   pub record Holding (base : History) (since : List Accepted) (up : ℕ → Bool) (done : ℕ → List ℕ) (holder : ℕ → Option Attempt) (ended : ℕ → ℕ → ℕ) (turns : ℕ → ℕ) (trying : ℕ → Option Attempt) : Type 0 where

@@ -58,6 +58,7 @@ module _ (o : ℕ) (laws : Laws o) (kept : ℕ → Bool) where
       few = omega (arith, v.shorter, m.fits.few);
     };
     is_op = m.is_op;
+    changes = m.changes;
     home = m.home;
     newest = mem_all (λ i. SameSeat o i.request (request_of x) → i.request.number < (request_of x).number) t (λ i h. all_mem (λ i. SameSeat o i.request (request_of x) → i.request.number < (request_of x).number) s i m.newest (v.each i h));
     reply = m.reply ∙ step_reply (laid o s) (request_of x).op ∙ ap (λ (p : Reply × List Change). p.0) (laws.looks_matter o (laid o s) (laid o t) (request_of x).op agree).0 ∙ sym (step_reply (laid o t) (request_of x).op);

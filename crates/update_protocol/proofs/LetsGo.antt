@@ -1,5 +1,5 @@
 -- A target lets go, a request begins, a record is executed.
-use Rattle.std.proofs.Common.{List, None, Option, Some, [], ap, arith, false, inl, inr, le_of_lt, le_refl, le_trans, length, max, refl, subst, suc, sym, true, true≢false, ℕ, ⊎_elim, ◌++◌, ◌<◌, ◌∙◌, ◌∷◌, ◌≡◌, ◌≢◌, ◌≤◌, ◌⊎◌}
+use Rattle.std.proofs.Common.{List, None, Option, Some, [], ap, arith, false, inl, inr, le_of_lt, le_refl, le_trans, length, max, refl, subst, suc, sym, true, true≢false, zero, ℕ, ⊎_elim, ◌++◌, ◌<◌, ◌∙◌, ◌∷◌, ◌≡◌, ◌≢◌, ◌≤◌, ◌⊎◌}
 use Rattle.std.proofs.lemmas.Bool.Decides.{eqb_tells}
 use Rattle.std.specs.FinMap.{get}
 use Rattle.tree_model.specs.declared.op.Request.{Request}
@@ -14,8 +14,8 @@ use Rattle.update_protocol.proofs.Syncs.{syncing_more, syncing_push}
 use Rattle.update_protocol.specs.Events.{Ask, Execute_comes, Give_up, May, Release_comes, Release_noted, Sync_comes, happens}
 use Rattle.update_protocol.specs.Lists.{IsIn, Rising, put, put_two}
 use Rattle.tree_shares.specs.Seats.{SameSeat, Share}
-use Rattle.update_protocol.specs.Seats.{IsBelow, Newest}
-use Rattle.update_protocol.specs.World.{Accepted, Attempt, Each, Execute, Follows, Held, History, Release, Sync, Synced, Who, World, after_items, at, entry, is_on, master, request_of}
+use Rattle.update_protocol.specs.Seats.{IsBelow, Newest, is_read}
+use Rattle.update_protocol.specs.World.{Accepted, Attempt, Each, Execute, Follows, Held, History, Release, Sync, Synced, Who, World, after_items, at, entry, grown, is_on, master, request_of}
 
 pub some_same : (a b : Attempt) → Some a ≡ Some b → a ≡ b
 some_same a b e = cc
@@ -29,6 +29,13 @@ not_newest o h xs f r new n l e =
     let in_it : IsIn (entry (at xs n)) (after_items h xs) = entry_in h xs n l in
     let lt : (request_of (at xs n)).number < r.number = all_mem (λ i. SameSeat o i.request r → i.request.number < r.number) (after_items h xs) (entry (at xs n)) new in_it (subst (λ r. SameSeat o (request_of (at xs n)) r) e (refl, refl)) in
     let same : (request_of (at xs n)).number ≡ r.number = ap (λ (r : Request). r.number) e in omega (arith, lt, same)
+
+-- no item is a read
+pub changes_at : (o : ℕ) (h : History) (xs : List Accepted) → Follows o h xs → Each (λ n x. is_read (request_of x).op ≡ false) xs
+unfolding at
+changes_at o h [] f n l = absurd (omega (arith, l))
+changes_at o h (x ∷ xs) f zero l = f.0.changes
+changes_at o h (x ∷ xs) f (suc n) l = changes_at o (grown h x) xs f.1 n (omega (arith, l))
 
 module _ (σ : Setting) where
   pub keeps_noted : (w : World) → Invariant σ.targets w → (a : Attempt) (t : ℕ) → Invariant σ.targets (happens w (Release_noted a t))
@@ -168,9 +175,11 @@ module _ (σ : Setting) where
       let a : Attempt = record { who = who; turn = suc (w.turns h) } in
       -- nothing waits at the home, so its seats are those of the history
       let all : Each (λ n x. is_on x h ≡ true → IsIn n (w.done h)) w.since = λ n l on. ⊎_elim (λ g. g) (λ (e : w.holder h ≡ Some (at w.since n).attempt). absurd (none_some _ (sym may.1 ∙ e))) (i.holding.waits n l h may.0 on) in
-      let new : Newest σ.targets (after_items w.base w.since) who.request = passes σ.targets (after_items w.base w.since) who.request h (ordered_after σ.targets w.base w.since i.grounded.ordered i.follows) may.2
-      (subst (λ (s : Share). IsBelow (get s.seats who.request.client) who.request.number) (share_made σ w i h may.3 all) may.4) in
-      let fresh : Each (λ n x. x.attempt.who ≢ who) w.since = λ n l e. not_newest σ.targets w.base w.since i.follows who.request new n l (ap (λ (y : Who). y.request) e) in
+      let new : is_read who.request.op ≡ false → Newest σ.targets (after_items w.base w.since) who.request = λ r. passes σ.targets (after_items w.base w.since) who.request h (ordered_after σ.targets w.base w.since i.grounded.ordered i.follows) may.2
+      (subst (λ (s : Share). IsBelow (get s.seats who.request.client) who.request.number) (share_made σ w i h may.3 all) (may.4 r)) in
+      let fresh : Each (λ n x. x.attempt.who ≢ who) w.since = λ n l e.
+      let same : request_of (at w.since n) ≡ who.request = ap (λ (y : Who). y.request) e in
+      not_newest σ.targets w.base w.since i.follows who.request (new (subst (λ (r : Request). is_read r.op ≡ false) same (changes_at σ.targets w.base w.since i.follows n l))) n l same in
       let turns' : ℕ → ℕ = put w.turns h (suc (w.turns h)) in
       let trying' : ℕ → Option Attempt = put w.trying h (Some a) in
       let holder' : ℕ → Option Attempt = put w.holder h (Some a) in

@@ -10,6 +10,7 @@ pub mod Small
 pub mod Disks
 pub mod Adopts
 pub mod Shares
+pub mod Hearing
 pub mod Holds
 pub mod Seating
 pub mod LetsGo
@@ -38,7 +39,11 @@ pub mod Fitting
 pub mod SayingUp
 pub mod SayingLog
 pub mod SayingReply
+pub mod SayingAnswers
+pub mod SayingRefusals
 pub mod SayingRecovery
+pub mod Free
+pub mod Resting
 pub mod SayingRecovered
 pub mod Making
 pub mod Lives

@@ -141,6 +141,7 @@ module _ (b : Below) where
   item_is is_op = record {
     fits = record { each = tt; few = omega arith };
     is_op = is_op;
+    changes = refl;
     home = refl;
     newest = tt;
     reply = decides.reply;
@@ -161,6 +162,7 @@ module _ (b : Below) where
     all_synced = λ t k m. absurd (no_sync t k m);
     next_batch = refl;
     is_op = is_op;
+    changes = refl;
     few = omega arith;
     answers = at_home ∷ at_node ∷ [];
     heard = both (λ a. IsIn (Held attempt a.at a.question a.writer a.clock a.results) asked_both.pool) at_home at_node (inr (inr (inl refl))) (inl refl);
@@ -175,7 +177,7 @@ module _ (b : Below) where
   pub runs : IsOp 3 (makes dir name_d) → Run 3 (fresh start []) events executed
   unfolding at
   runs is_op = (
-    (refl, refl, refl, omega arith, no_seat 0 1),
+    (refl, refl, refl, omega arith, λ r. no_seat 0 1),
     (
       refl,
       (

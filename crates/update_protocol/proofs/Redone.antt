@@ -1,5 +1,5 @@
 -- Redo completes each target by the kept records that it lacks, in the order of the history.
-use Rattle.std.proofs.Common.{Bool, List, [], ap, arith, false, inl, inr, length, refl, subst, sym, true, true≢false, zero-add, ℕ, ⊎_elim, ◌++◌, ◌<◌, ◌∙◌, ◌∷◌, ◌≡◌, ◌≤◌, ◌⊎◌}
+use Rattle.std.proofs.Common.{Bool, List, [], ap, arith, false, inl, inr, le_trans, length, refl, subst, sym, true, true≢false, zero-add, ℕ, ⊎_elim, ◌++◌, ◌<◌, ◌∙◌, ◌∷◌, ◌≡◌, ◌≤◌, ◌⊎◌}
 use Rattle.std.proofs.lemmas.Bool.Decides.{eqb_tells}
 use Rattle.update_protocol.proofs.Basics.{put_at}
 use Rattle.update_protocol.proofs.Invariant.{Invariant}
@@ -154,3 +154,40 @@ module _ (σ : Setting) where
         (λ (covers : Covers (at w.since n) (at w.since m)). let r = (named m d.inside).0 k in (r.0, i.durable.prefix n m d.before d.inside r.0 r.1 (covers r.0 (i.durable.known r.0 m r.1).1)))
         (leads_safe σ w i.durable n m (depends_leads σ w i.follows n m d)));
   }
+
+  -- So it is from what masters and targets have in memory, where a mark or a cancelled record may not be committed yet.
+  pub gathered_now : (w : World) → Invariant σ.targets w → (kept : ℕ → Bool) → Each (λ n a. (kept n ≡ true → Named w.disk n) × (Named w.disk n → kept n ≡ true)) w.since
+      → Gathered σ.targets w.base w.since w.disk w.mark w.gone kept
+  gathered_now w i kept named =
+      let g = gathered w i kept named in
+      record {
+        named = g.named;
+        rising = g.rising;
+        known = g.known;
+        stamps = g.stamps;
+        prefix = g.prefix;
+        closed = g.closed;
+        under = i.marking.marked;
+        cancelled = λ t n h. let d = i.marking.dropped t n h in (
+          d.0,
+          ⊎_elim (λ (le : (at w.since n).batch ≤ w.kept_mark (master (at w.since n))). le_trans le (i.marking.mark_most (master (at w.since n))).0)
+              (λ (own : (master (at w.since n) ≡ t) × ((at w.since n).batch ≤ w.mark t)). subst (λ m. (at w.since n).batch ≤ w.mark m) (sym own.0) own.1) d.1,
+        );
+      }
+
+  -- What is redone doesn't depend on which marks and cancelled records it is found by.
+  pub redo_alike : (base : History) (since : List Accepted) (disk : ℕ → List ℕ) (mark : ℕ → ℕ) (gone : ℕ → List ℕ) (other : ℕ → ℕ) (dropped : ℕ → List ℕ) (kept : ℕ → Bool)
+      → Gathered σ.targets base since disk mark gone kept → Gathered σ.targets base since disk other dropped kept → (t : ℕ) (extra : List ℕ) → Redo since disk mark gone t extra → Redo since disk other dropped t extra
+  redo_alike base since disk mark gone other dropped kept g f t extra redo =
+      let exact = redo_exact base since disk mark gone kept g t extra redo in
+      record {
+        only = λ n m.
+            let x = (exact.1 n).0 m in
+            let named = (g.named n x.0).0 x.2 in
+            let above : other (master (at since n)) < (at since n).batch = ⊎_elim
+            (λ (le : (at since n).batch ≤ other (master (at since n))). absurd (x.3 (f.under n x.0 le t x.1))) (λ lt. lt) (le_or (at since n).batch (other (master (at since n)))) in
+            (((named.0, (named.1, λ c. let a = (f.cancelled named.0 n c).1 in omega (arith, a, above))), above), x.1, λ live. x.3 live.0);
+        all = λ n l union on lacks. (exact.1 n).1 l on ((g.named n l).1 (union.0.0, union.0.1.0))
+            (λ here. lacks (here, λ c. let a = (f.cancelled t n c).1 in let b = union.1 in omega (arith, a, b)));
+        order = redo.order;
+      }

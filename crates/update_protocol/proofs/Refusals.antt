@@ -1,6 +1,6 @@
 -- An operation is refused by what another one wrote that isn't committed yet, on a target where the refusal takes no part.
 use Rattle.std.proofs.Common.{◌≡◌, ◌≤◌, ◌<◌, ⊎_elim, ℕ, Bool, true, false, true≢false, Option, Some, None, List, [], ◌∷◌, inl, inr, ◌++◌, length, refl, sym, ap, ◌∙◌, subst, arith}
-use Rattle.std.specs.Prelude.{◌||◌}
+use Rattle.std.specs.Prelude.{if◌then◌else◌, ◌==◌, ◌||◌}
 use Rattle.std.proofs.lemmas.Bool.Decides.{eqb_tells}
 use Rattle.tree_model.specs.declared.errno.Errno.TheVariants.{EEXIST}
 use Rattle.std.specs.FinMap.{empty, get, get-empty, get-insert, insert}
@@ -38,9 +38,10 @@ use Rattle.tree_shares.specs.Updates.{attributes_bytes, op_updates, placed, unle
 use Rattle.op_laws.specs.Near.{key_fid}
 use Rattle.op_laws.specs.Objects.{is_among, owner, stands}
 use Rattle.update_protocol.specs.Lists.{IsIn}
+use Rattle.update_protocol.specs.Rows.{pending}
 use Rattle.update_protocol.specs.Facts.{AreTrue, Asks, Decides, Decision, Fact, Settles, laid, place}
 use Rattle.update_protocol.specs.Seats.{IsBelow}
-use Rattle.update_protocol.specs.World.{Accepted, Answer, Attempt, Held, History, Hold, Matches, Message, Sync, Synced, World, applied, at, entry, is_on, wrote_of}
+use Rattle.update_protocol.specs.World.{Accepted, Answer, Attempt, Held, History, Hold, Matches, Message, Named, Sync, Synced, World, applied, at, entry, is_on, saw_of, wrote_of}
 use Rattle.update_protocol.specs.Events.{Accept, Ask, Backed, Commit, Event, Hold_comes, MayAccept, Run, Send, Settled, Sync_comes, fresh, happens, has_now}
 use Rattle.update_protocol.specs.Epochs.{Begin, Reached}
 use Rattle.update_protocol.proofs.Shares.{share_grown}
@@ -260,6 +261,7 @@ module _ (b : Below) where
   two = record {
     fits = record { each = (is_op, tt); few = omega arith };
     is_op = sets_is_op;
+    changes = refl;
     home = refl;
     newest = ((λ same. omega arith), tt);
     reply = set_decides.reply;
@@ -306,6 +308,7 @@ module _ (b : Below) where
     all_synced = λ t k m. absurd (none_sent t k m);
     next_batch = refl;
     is_op = sets_is_op;
+    changes = refl;
     few = omega arith;
     answers = at_dir ∷ [];
     heard = λ a m. ⊎_elim (λ e. subst (λ (a : Answer). IsIn (Held sets_attempt a.at a.question a.writer a.clock a.results) set_asked.pool) (sym e) (inl refl)) (λ none. absurd none) m;
@@ -324,7 +327,7 @@ module _ (b : Below) where
 
   set_run : Run 3 committed (set_asks ++ (Accept 1 set_item ∷ [])) written
   unfolding at
-  set_run = ((refl, refl, refl, omega arith, no_seat 1 2), (refl, ((inl refl, refl, inl refl, (λ f asks n m w. m), refl, omega arith), (set_may, refl))))
+  set_run = ((refl, refl, refl, omega arith, λ r. no_seat 1 2), (refl, ((inl refl, refl, inl refl, (λ f asks n m w. m), refl, omega arith), (set_may, refl))))
 
   seat : IsBelow (get (insert {R = nat_cmp} empty 0 (1, replies.Ok)) 1) 3
   seat = subst (λ (s : Option (ℕ × Reply)). IsBelow s 3) (sym (get-insert nat_cmp_total empty 0 (1, replies.Ok) 1 ∙ get-empty {X = ℕ × Reply} nat_cmp 1)) tt
@@ -341,7 +344,7 @@ module _ (b : Below) where
   asks_run : Run 3 written asks asked
   unfolding at
   asks_run = (
-    (refl, refl, refl, omega arith, seat),
+    (refl, refl, refl, omega arith, λ r. seat),
     (
       refl,
       (
@@ -381,6 +384,7 @@ module _ (b : Below) where
     all_synced = λ t k m. ⊎_elim (λ (e : Sync attempt t k ≡ Sync attempt 1 1). inr (subst (λ t. IsIn (Synced attempt t) synced.pool) (sym (ap sync_target e)) (inl refl))) (λ none. absurd none) (sync_among (Sync attempt t k) synced.pool refl m);
     next_batch = refl;
     is_op = refused_is_op;
+    changes = refl;
     few = omega arith;
     answers = at_home ∷ at_node ∷ [];
     heard = both (λ a. IsIn (Held attempt a.at a.question a.writer a.clock a.results) synced.pool) at_home at_node (inr (inr (inr (inr (inl refl))))) (inr (inr (inl refl)));
@@ -391,21 +395,41 @@ module _ (b : Below) where
     decided = settled;
   }
 
-  syncs_run : Run 3 asked syncs synced
+  pub syncs_run : Run 3 asked syncs synced
   unfolding at
   syncs_run = ((refl, backed), (refl, ((inl refl, refl, refl, λ n m. m), refl)))
 
-  pub reached : Reached 3 [] synced
-  reached = record {
-    story = Begin;
-    start = start;
-    events = (((events ++ commits) ++ (set_asks ++ (Accept 1 set_item ∷ []))) ++ asks) ++ syncs;
-    run = run_on 3 (((events ++ commits) ++ (set_asks ++ (Accept 1 set_item ∷ []))) ++ asks) syncs (fresh start []) asked synced
-        (run_on 3 ((events ++ commits) ++ (set_asks ++ (Accept 1 set_item ∷ []))) asks (fresh start []) written asked
-        (run_on 3 (events ++ commits) (set_asks ++ (Accept 1 set_item ∷ [])) (fresh start []) committed written
-        (run_on 3 events commits (fresh start []) executed committed (runs b is_op) (refl, (refl, refl))) set_run) asks_run) syncs_run;
-  }
+  abbrev front : List Event
+  front = ((events ++ commits) ++ (set_asks ++ (Accept 1 set_item ∷ []))) ++ asks
 
-pub shows : (refusal.reply ≡ replies.Err EEXIST) × (is_on refusal 0 ≡ true) × (is_on refusal 1 ≡ false) × (is_on (at synced.since 1) 0 ≡ false) × IsIn (Sync refusal.attempt 1 1) synced.pool × IsIn (Synced refusal.attempt 1) synced.pool
+  front_run : Run 3 (fresh start []) front asked
+  front_run =
+      run_on 3 ((events ++ commits) ++ (set_asks ++ (Accept 1 set_item ∷ []))) asks (fresh start []) written asked
+      (run_on 3 (events ++ commits) (set_asks ++ (Accept 1 set_item ∷ [])) (fresh start []) committed written
+      (run_on 3 events commits (fresh start []) executed committed (runs b is_op) (refl, (refl, refl))) set_run) asks_run
+
+  pub reached_before : Reached 3 [] asked
+  reached_before = record { story = Begin; start = start; events = front; run = front_run }
+
+  pub reached : Reached 3 [] synced
+  reached = record { story = Begin; start = start; events = front ++ syncs; run = run_on 3 front syncs (fresh start []) asked synced front_run syncs_run }
+
+first_alone : IsIn {A = ℕ} 1 (0 ∷ []) → ⊥
+first_alone m = ⊎_elim (λ (e : 1 ≡ 0). omega (arith, e)) (λ none. none) m
+
+-- before the sync no target has committed the writer
+unnamed_at : (one home : Bool) → IsIn {A = ℕ} 1 (if one then 0 ∷ [] else (if home then 0 ∷ [] else [])) → ⊥
+unnamed_at true home m = first_alone m
+unnamed_at false true m = first_alone m
+unnamed_at false false m = m
+
+pub unnamed : Named asked.disk 1 → ⊥
+unnamed n = unnamed_at (n.0 == 1) (n.0 == 0) n.1
+
+pub rests : (1 < length asked.since) × (wrote_of (at asked.since 1) dir ≡ true) × (saw_of refusal dir ≡ true) × (is_on refusal 0 ≡ true) × (is_on (at asked.since 1) 0 ≡ false)
 unfolding at
-shows = (refl, refl, refl, refl, inr (inl refl), inl refl)
+rests = (omega arith, refl, refl, refl, refl)
+
+pub shows : (refusal.reply ≡ replies.Err EEXIST) × (is_on refusal 0 ≡ true) × (is_on refusal 1 ≡ false) × (is_on (at asked.since 1) 0 ≡ false) × IsIn {A = ℕ} 1 (pending asked 1)
+unfolding at
+shows = (refl, refl, refl, refl, inl refl)

@@ -247,6 +247,7 @@ module _ (b : Below) where
   two = record {
     fits = record { each = (is_op, tt); few = omega arith };
     is_op = m_is_op;
+    changes = refl;
     home = refl;
     newest = ((λ same. omega arith), tt);
     reply = m_decides.reply;
@@ -317,6 +318,7 @@ module _ (b : Below) where
     all_synced = λ t k m. absurd (sync_among (Sync makes_again t k) m_asked.pool refl m);
     next_batch = refl;
     is_op = m_is_op;
+    changes = refl;
     few = omega arith;
     answers = m_home ∷ m_there ∷ [];
     heard = both (λ a. IsIn (Held makes_again a.at a.question a.writer a.clock a.results) m_asked.pool) m_home m_there (inr (inr (inl refl))) (inl refl);
@@ -333,7 +335,7 @@ module _ (b : Below) where
   m_run : Run 3 committed m_asks m_asked
   unfolding at
   m_run = (
-    (refl, refl, refl, omega arith, client_none 2),
+    (refl, refl, refl, omega arith, λ r. client_none 2),
     (
       refl,
       (
@@ -353,7 +355,7 @@ module _ (b : Below) where
   r_run : Run 3 m_done r_asks r_asked
   unfolding at
   r_run = (
-    (refl, refl, refl, omega arith, client_two),
+    (refl, refl, refl, omega arith, λ r. client_two),
     (
       refl,
       (
@@ -384,6 +386,7 @@ module _ (b : Below) where
       all_synced = λ t k m. absurd (sync_among (Sync attempt t k) r_asked.pool refl m);
       next_batch = refl;
       is_op = r_is_op;
+      changes = refl;
       few = omega arith;
       answers = answers;
       heard = four (λ a. IsIn (Held attempt a.at a.question a.writer a.clock a.results) r_asked.pool) a0 a1 a2 a3 (inr (inr (inr (inr (inr (inr (inl refl))))))) (inr (inr (inr (inr (inl refl))))) (inr (inr (inl refl))) (inl refl);

@@ -12,7 +12,7 @@ use Rattle.update_record.specs.Spelling.{targets_from}
 use Rattle.update_protocol.specs.Epochs.{Reached}
 use Rattle.update_protocol.specs.Events.{Accept, May, fresh, happens}
 use Rattle.update_protocol.specs.Lists.{IsIn, put}
-use Rattle.update_protocol.specs.Machine.{Accepts, Entry, Line, Replies, Serving, State, history_of, is_read}
+use Rattle.update_protocol.specs.Machine.{Accepts, Entry, Line, Replies, Serving, State, history_of}
 use Rattle.update_protocol.specs.Parts.{IsSent, entries_of}
 use Rattle.update_protocol.specs.Rows.{has, pending}
 use Rattle.update_protocol.specs.Seats.{Newest}
@@ -66,7 +66,7 @@ module _ (σ : Setting) (h : History) (w : World) (r : Reached σ.targets h w) (
     after : Invariant σ.targets (happens w (Accept m x))
     after = keeps σ w (inv σ h w r) (Accept m x) may
 
-    matches : Matches σ.targets (after_items w.base w.since) x
+    pub matches : Matches σ.targets (after_items w.base w.since) x
     matches = follows_last σ.targets w.base w.since x after.follows
 
     new_pends : (s : ℕ) → numbers_at (w.since ++ x ∷ []) (pending (happens w (Accept m x)) s) ≡ put now.pend m (now.pend m ++ (request_of x).number ∷ []) s
@@ -88,11 +88,14 @@ module _ (σ : Setting) (h : History) (w : World) (r : Reached σ.targets h w) (
         unnamed : (t : ℕ) → has (0 + length w.since) (w.disk t) ≡ false
         unnamed t = not_has (0 + length w.since) (w.disk t) (λ q. let l = ((inv σ h w r).durable.known t (0 + length w.since) q).0 in omega (arith, l))
 
-    pub accepts : request_of x ≡ sent (request_of x).number → IsIn (request_of x) o.sent → is_read (request_of x).op ≡ false → o.standing m ≡ Serving → (rest : List Line)
+    pub home : home_of σ.targets (request_of x).op ≡ Some m
+    home = ((inv σ h w r).holding.current m x.attempt may.is_current).at_home
+
+    pub accepts : request_of x ≡ sent (request_of x).number → IsIn (request_of x) o.sent → o.standing m ≡ Serving → (rest : List Line)
         → Accepts now (request_of x).number x.reply (targets_from 0 x.parts) (Replies (request_of x).number x.reply ∷ rest) (state_of σ.targets o (happens w (Accept m x)))
-    accepts is was_sent changes serves rest = record {
+    accepts is was_sent serves rest = record {
       comes = record { request = request_of x; was_sent = was_sent; numbered = refl; home = m; at_home = home; serves = serves };
-      changes = changes;
+      changes = may.changes;
       newest = subst (λ g. Newest σ.targets g (request_of x)) history_is (new_newest σ h r.story r.start r.events w r.run m x may);
       unused = subst (λ g. AllByRecursion (λ i. i.request.number ≡ (request_of x).number → ⊥) g) history_is (none_has (request_of x).number (h ++ entries_of w.since) (new_once σ h r.story r.start r.events w r.run m x may sent known is));
       replied = matches.reply ∙ ap (λ t. (step σ.targets t (request_of x).op).1) (σ.laws.beside_tree σ.targets (after_items w.base w.since)) ∙ ap (λ g. (step σ.targets (tree_of σ.targets g) (request_of x).op).1) whole_is;
@@ -101,6 +104,3 @@ module _ (σ : Setting) (h : History) (w : World) (r : Reached σ.targets h w) (
       then_reply = refl;
       after = λ i. record now { since = new_entries i; pend = λ s. new_pends s i };
     }
-      where
-        home : home_of σ.targets (request_of x).op ≡ Some m
-        home = ((inv σ h w r).holding.current m x.attempt may.is_current).at_home

@@ -172,15 +172,15 @@ module _ (σ : Setting) (sets : SetsOfParts) (base : History) (since : List Acce
 
 -- ---- the beginning of a recovery, and stops in it
 
-module _ (σ : Setting) (h : History) (w : World) (r : Reached σ.targets h w) (o : Spoken) (all : (t n : ℕ) → IsIn n (w.done t) → IsIn n (w.disk t)) where
-  none_pends : (t : ℕ) → pending w t ≡ []
-  none_pends t = nothing_in (pending w t) (λ n m.
+module _ (σ : Setting) (h : History) (w : World) (r : Reached σ.targets h w) where
+  pub none_pends : (t : ℕ) → ((n : ℕ) → IsIn n (w.done t) → IsIn n (w.disk t)) → pending w t ≡ []
+  none_pends t all = nothing_in (pending w t) (λ n m.
       let i = inv σ h w r in
       let behind : w.done t ≡ w.disk t ++ pending w t = pends_behind σ w i t in
-      rest_apart (w.disk t) (pending w t) (subst Rising behind (i.executed.in_order t)) n m (all t n (subst (λ l. IsIn n l) (sym behind) (mem_back (w.disk t) (pending w t) n m))))
+      rest_apart (w.disk t) (pending w t) (subst Rising behind (i.executed.in_order t)) n m (all n (subst (λ l. IsIn n l) (sym behind) (mem_back (w.disk t) (pending w t) n m))))
 
-  pub gathered_is : state_of σ.targets o w ≡ gathered_state σ.targets o w.base w.since w.disk
-  gathered_is = λ i. state_with σ.targets o w.base w.since w.disk (λ t. none_pends t i)
+  pub gathered_is : (o : Spoken) → ((t n : ℕ) → IsIn n (w.done t) → IsIn n (w.disk t)) → state_of σ.targets o w ≡ gathered_state σ.targets o w.base w.since w.disk
+  gathered_is o all = λ i. state_with σ.targets o w.base w.since w.disk (λ t. none_pends t (all t) i)
 
 abbrev nothing : ℕ → List ℕ
 nothing s = []

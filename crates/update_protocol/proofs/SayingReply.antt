@@ -13,9 +13,10 @@ use Rattle.tree_shares.specs.Shares.{is_at}
 use Rattle.update_protocol.specs.Epochs.{Reached}
 use Rattle.update_protocol.specs.Events.{has_now}
 use Rattle.update_protocol.specs.Lists.{IsIn}
-use Rattle.update_protocol.specs.Machine.{Answers, Serving, State, history_of, is_read}
+use Rattle.update_protocol.specs.Machine.{Answers, IsLate, Serving, State, history_of}
 use Rattle.update_protocol.specs.Parts.{IsSent, entries_of}
 use Rattle.update_protocol.specs.Rows.{has}
+use Rattle.update_protocol.specs.Seats.{is_read}
 use Rattle.update_protocol.specs.States.{Spoken, state_of}
 use Rattle.update_protocol.specs.World.{Accepted, History, World, at, entry, made, master, request_of}
 use Rattle.update_protocol.proofs.Fitting.{as_places}
@@ -73,7 +74,7 @@ seat_item : (targets target client : ℕ) (seat : ℕ × Reply) (h : History) �
 seat_item targets target client seat [] m = absurd m
 seat_item targets target client seat (i ∷ h) m = ⊎_elim (λ s. (i, inl refl, s)) (λ m. let r = seat_item targets target client seat h m in (r.0, inr r.1, r.2)) m
 
-all_of_them : (P Q : Item → Type 0) → ((i : Item) → P i → Q i) → (h : History) → AllByRecursion P h → AllByRecursion Q h
+pub all_of_them : (P Q : Item → Type 0) → ((i : Item) → P i → Q i) → (h : History) → AllByRecursion P h → AllByRecursion Q h
 all_of_them P Q f [] a = tt
 all_of_them P Q f (i ∷ h) a = (f i a.0, all_of_them P Q f h a.1)
 
@@ -97,21 +98,39 @@ module _ (σ : Setting) (lasts : SeatsAreLast) (h : History) (w : World) (r : Re
       ∙ sym (seats_join σ.targets t empty w.base (entries_of w.since))
       ∙ ap (seats_from σ.targets t empty) (sym (after_joined w.base w.since) ∙ whole_is σ h w r sent known o)
 
-  module _ (q : Request) (home : home_of σ.targets q.op ≡ Some t) (reply : Reply) (seat : get (has_now σ.targets w t).seats q.client ≡ Some (q.number, reply)) where
-    is_last : IsLast σ.targets t q.client (history_of now) (Some (q.number, reply))
+  module _ (q : Request) (home : home_of σ.targets q.op ≡ Some t) (last : ℕ) (reply : Reply) (seat : get (has_now σ.targets w t).seats q.client ≡ Some (last, reply)) where
+    is_last : IsLast σ.targets t q.client (history_of now) (Some (last, reply))
     is_last = subst (IsLast σ.targets t q.client (history_of now)) (sym (ap (λ s. get s q.client) own_seats) ∙ seat)
         (lasts σ.targets t q.client (history_of now) (subst (λ g. Ordered σ.targets g) (whole_is σ h w r sent known o) (ordered_after σ.targets w.base w.since (inv σ h w r).grounded.ordered (inv σ h w r).follows)))
 
-    pub answers : q ≡ sent q.number → IsIn q o.sent → is_read q.op ≡ false → o.standing t ≡ Serving → Answers now q.number reply
-    answers is was_sent changes serves = record {
+    seated_item : (i : Item) × IsIn i (history_of now) × IsSeat σ.targets t q.client (last, reply) i
+    seated_item = seat_item σ.targets t q.client (last, reply) (history_of now) is_last.1
+
+    most : AllByRecursion (λ k. SameSeat σ.targets k.request q → k.request.number ≤ last) (history_of now)
+    most = all_of_them (λ k. SitsAt σ.targets t q.client k → k.request.number ≤ last) (λ k. SameSeat σ.targets k.request q → k.request.number ≤ last)
+        (λ k below s. below (s.0, s.1 ∙ home)) (history_of now) is_last.0
+
+    -- a greater number was accepted
+    pub late : IsIn q o.sent → is_read q.op ≡ false → o.standing t ≡ Serving → q.number < last → IsLate now q.number last
+    late was_sent changes serves later = record {
       comes = record { request = q; was_sent = was_sent; numbered = refl; home = t; at_home = home; serves = serves };
-      read = λ e. absurd (true≢false (sym e ∙ changes));
-      kept = λ e.
-          let i = seat_item σ.targets t q.client (q.number, reply) (history_of now) is_last.1 in
-          let same : i.0.request ≡ q = request_is sent (history_of now) (subst (IsSent sent) (history_is σ h w r sent known o) known) i.0 i.1 ∙ ap sent i.2.1 ∙ sym is in
-          let item : i.0 ≡ record { request = q; reply = reply } = (λ j. record { request = same j; reply = i.2.2 j }) in (
-            subst (λ (k : Item). IsIn k (history_of now)) item i.1,
-            all_of_them (λ k. SitsAt σ.targets t q.client k → k.request.number ≤ q.number) (λ k. SameSeat σ.targets k.request q → k.request.number ≤ q.number)
-                (λ k below s. below (s.0, s.1 ∙ home)) (history_of now) is_last.0,
-          );
+      changes = changes;
+      item = seated_item.0;
+      accepted = seated_item.1;
+      same_seat = (seated_item.2.0.0, seated_item.2.0.1 ∙ sym home);
+      numbered = seated_item.2.1;
+      is_last = most;
+      later = later;
     }
+
+  pub answers : (q : Request) → home_of σ.targets q.op ≡ Some t → (reply : Reply) → get (has_now σ.targets w t).seats q.client ≡ Some (q.number, reply) → q ≡ sent q.number → IsIn q o.sent → is_read q.op ≡ false → o.standing t ≡ Serving
+      → Answers now q.number reply
+  answers q home reply seat is was_sent changes serves = record {
+    comes = record { request = q; was_sent = was_sent; numbered = refl; home = t; at_home = home; serves = serves };
+    read = λ e. absurd (true≢false (sym e ∙ changes));
+    kept = λ e.
+        let i = seated_item q home q.number reply seat in
+        let same : i.0.request ≡ q = request_is sent (history_of now) (subst (IsSent sent) (history_is σ h w r sent known o) known) i.0 i.1 ∙ ap sent i.2.1 ∙ sym is in
+        let item : i.0 ≡ record { request = q; reply = reply } = (λ j. record { request = same j; reply = i.2.2 j }) in
+        (subst (λ (k : Item). IsIn k (history_of now)) item i.1, most q home q.number reply seat);
+  }

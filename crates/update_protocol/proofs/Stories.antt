@@ -14,7 +14,7 @@ use Rattle.tree_shares.specs.Seats.{share_of}
 use Rattle.update_protocol.specs.World.{Accepted, Follows, History, World, after_items, at, is_on, made}
 
 module _ (σ : Setting) where
-  all_redos : (w : World) (kept : ℕ → Bool) (rs : List (ℕ × List ℕ)) (disk last : ℕ → List ℕ) → Gathered σ.targets w.base w.since disk w.kept_mark w.kept_gone kept
+  pub all_redos : (w : World) (kept : ℕ → Bool) (rs : List (ℕ × List ℕ)) (disk last : ℕ → List ℕ) → Gathered σ.targets w.base w.since disk w.kept_mark w.kept_gone kept
       → Redos w disk rs last → Gathered σ.targets w.base w.since last w.kept_mark w.kept_gone kept
   all_redos w kept [] disk last g r = subst (λ d. Gathered σ.targets w.base w.since d w.kept_mark w.kept_gone kept) (sym r) g
   all_redos w kept (q ∷ rs) disk last g r =

@@ -96,7 +96,7 @@ module _ (σ : Setting) where
         sent (known_kept h w.since kept sent known) (story_grounded σ h story).ordered (story_replies h story) run_follows
 
     pub new_newest : (m : ℕ) (x : Accepted) → May σ.targets w (Accept m x) → Newest σ.targets (h ++ entries_of w.since) (request_of x)
-    new_newest m x may = subst (λ g. Newest σ.targets g (request_of x)) (ap (λ b. after_items b w.since) (base_kept σ events (fresh s h) w run) ∙ after_joined h w.since) (inv.holding.current m x.attempt may.is_current).newest
+    new_newest m x may = subst (λ g. Newest σ.targets g (request_of x)) (ap (λ b. after_items b w.since) (base_kept σ events (fresh s h) w run) ∙ after_joined h w.since) ((inv.holding.current m x.attempt may.is_current).newest may.changes)
 
     pub new_once : (m : ℕ) (x : Accepted) → May σ.targets w (Accept m x) → (sent : ℕ → Request) → IsSent sent (h ++ entries_of w.since) → request_of x ≡ sent (request_of x).number
         → HasNumber (request_of x).number (h ++ entries_of w.since) → ⊥

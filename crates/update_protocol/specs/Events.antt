@@ -11,7 +11,7 @@ use Rattle.tree_model.specs.Participants.{home_of}
 use Rattle.update_protocol.specs.Facts.{Asks, Decision, Settles, place}
 use Rattle.update_protocol.specs.Lists.{IsIn, put, put_two}
 use Rattle.tree_shares.specs.Seats.{Share, share_of}
-use Rattle.update_protocol.specs.Seats.{IsBelow}
+use Rattle.update_protocol.specs.Seats.{IsBelow, is_read}
 use Rattle.update_protocol.specs.World.{Accepted, Answer, Attempt, Cancel, Covers, Each, Execute, Held, History, Hold, Message, Release, Stable, Sync, Synced, Who, World, after_items, at, facts_of, is_on, made, master, request_of, wrote_of}
 use Rattle.update_record.specs.Spelling.{has_target}
 
@@ -173,7 +173,12 @@ module _ (targets : ℕ) where
   abbrev pub IsFact : World → ℕ → List Update → List UpdateResult → Type 0
   IsFact w t q f = f ≡ map (reads (has_now w t).objects) q
 
-  -- What a home needs to accept. It serves, and this is its attempt; each target that was asked for a sync answered or
+  -- answers that came to an attempt, each of the target of what it was asked
+  pub record AreHeard (pool : List Message) (a : Attempt) (answers : List Answer) : Type 0 where
+    pub came : (b : Answer) → IsIn b answers → IsIn (Held a b.at b.question b.writer b.clock b.results) pool
+    pub placed : (b : Answer) → IsIn b answers → (u : Update) → IsIn u b.question → b.at ≡ place targets u.fid
+
+  -- What a home needs to accept. It serves, this is its attempt, and of no read; each target that was asked for a sync answered or
   -- stopped. Each answer was told to this attempt by the target of what it asked; its writer covers the item, or its
   -- target was synced. Each target of the item answered, the stamp is above each clock, and the facts decide the item.
   pub record MayAccept (w : World) (m : ℕ) (x : Accepted) : Type 0 where
@@ -182,6 +187,7 @@ module _ (targets : ℕ) where
     pub all_synced : (t k : ℕ) → IsIn (Sync x.attempt t k) w.pool → (w.up t ≡ false) ⊎ IsIn (Synced x.attempt t) w.pool
     pub next_batch : x.batch ≡ suc (w.batches m)
     pub is_op : IsOp targets (request_of x).op
+    pub changes : is_read (request_of x).op ≡ false
     pub few : length (after_items w.base w.since) < 0x0ffffffe
     pub answers : List Answer
     pub heard : (a : Answer) → IsIn a answers → IsIn (Held x.attempt a.at a.question a.writer a.clock a.results) w.pool
@@ -203,11 +209,11 @@ module _ (targets : ℕ) where
   MaySend w (Stable t m b) = (n : ℕ) × IsIn n (w.disk t) × (master (at w.since n) ≡ m) × ((at w.since n).batch ≡ b)
   MaySend w (Cancel m b) = b ≤ w.kept_mark m
 
-  -- The seat of a request is judged by the home's own share, while nothing holds the home.
+  -- The seat of a request that isn't a read is judged by the home's own share, while nothing holds the home.
   abbrev pub May : World → Event → Type 0
   May w (Ask who) =
       (w.up who.master ≡ true) × (w.holder who.master ≡ None) × (home_of targets who.request.op ≡ Some who.master) × (who.master < targets)
-      × IsBelow (get (has_now w who.master).seats who.request.client) who.request.number
+      × (is_read who.request.op ≡ false → IsBelow (get (has_now w who.master).seats who.request.client) who.request.number)
   May w (Send p) = MaySend w p
   May w (Hold_comes a t q k f) =
       IsIn (Hold a t q) w.pool × (w.up t ≡ true) × ((w.holder t ≡ Some a) ⊎ ((w.holder t ≡ None) × (w.ended t a.who.master < a.turn)))

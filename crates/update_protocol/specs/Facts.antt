@@ -80,3 +80,7 @@ module _ (targets : ℕ) where
   -- what facts decide: over each history of whose shares they are true, the operation is so
   abbrev pub Settles : List Fact → ℕ → Op → Decision → Type 0
   Settles facts batch op d = (h : List Item) → Fits h → AreTrue (laid h) facts → Decides (laid h) facts batch op d
+
+  -- it is so over each history of whose shares the facts are true
+  abbrev pub Imply : List Fact → (Laid → Type 0) → Type 0
+  Imply facts P = (h : List Item) → Fits h → AreTrue (laid h) facts → P (laid h)

@@ -1,8 +1,8 @@
--- Which lines a command may have, by the standings before it.
+-- Which lines a command may have, by the state before it.
 use Rattle.std.specs.Prelude.{List, [], ℕ, suc, ◌++◌, ◌<◌, ◌≤◌, ◌∷◌, ◌≡◌, ◌⊎◌}
 use Rattle.tree_model.specs.declared.op.Request.{Request}
 use Rattle.tree_model.specs.Tree.{Tree}
-use Rattle.update_protocol.specs.Machine.{Standing, Serving, Opened, Down, Line, Accept, Replies, Done, Busy, Stale, Full, Recovering, Ignored, Unsettled, Shared, Stable, Stopped, Up, Stands, Redone, Missing, Recovered, Shows, Tree_stands, Tree_busy, Log, End_clean, End_target, End_request, Listed}
+use Rattle.update_protocol.specs.Machine.{State, Standing, Serving, Opened, Down, Line, Accept, Replies, Done, Busy, Stale, Full, Recovering, Ignored, Undelivered, Unsettled, Shared, Stable, Stopped, Up, Stands, Redone, Missing, Recovered, Shows, Tree_stands, Tree_busy, Log, End_clean, End_target, End_request, Listed}
 
 pub data Command : Type 0 where
   Cluster : (targets : ℕ) → Command
@@ -19,6 +19,7 @@ pub data Command : Type 0 where
   Recover : Command
   Tree_shown : Command
   Log_shown : (target : ℕ) → Command
+  Messages_shown : Command
   End : Command
 
 -- the first target that doesn't serve; the first that is down
@@ -51,36 +52,40 @@ AreDeliveries (Ignored k ∷ more) = AreDeliveries more
 AreDeliveries _ = ⊥
 
 -- `stable` lines of these targets, ascending from one on
-abbrev pub AreStable : (ℕ → Standing) → ℕ → ℕ → List Line → Type 0
-AreStable standing t targets [] = (u : ℕ) → t ≤ u → u < targets → standing u ≡ Serving → ⊥
-AreStable standing t targets (Stable u ns ∷ more) =
-    (t ≤ u) × (u < targets) × (standing u ≡ Serving) × ((v : ℕ) → t ≤ v → v < u → standing v ≡ Serving → ⊥) × AreStable standing (suc u) targets more
-AreStable standing t targets _ = ⊥
+abbrev pub AreStable : (ℕ → Type 0) → ℕ → ℕ → List Line → Type 0
+AreStable these t targets [] = (u : ℕ) → t ≤ u → u < targets → these u → ⊥
+AreStable these t targets (Stable u ns ∷ more) =
+    (t ≤ u) × (u < targets) × these u × ((v : ℕ) → t ≤ v → v < u → these v → ⊥) × AreStable these (suc u) targets more
+AreStable these t targets _ = ⊥
 
--- `redone` lines, ascending from one on
+-- `redone` lines, ascending from one on, each of a target with a record that it lacks
 abbrev pub AreRedone : ℕ → List Line → Type 0
 AreRedone t [] = Unit {0}
-AreRedone t (Redone u ns ∷ more) = (t ≤ u) × AreRedone (suc u) more
+AreRedone t (Redone u ns ∷ more) = (t ≤ u) × (ns ≡ [] → ⊥) × AreRedone (suc u) more
 AreRedone t _ = ⊥
 
 abbrev pub IsFront : List Line → List Line → Type 0
 IsFront front whole = (rest : List Line) × (whole ≡ front ++ rest)
 
--- a whole recovery: what served is committed, what is missing is redone
-abbrev pub AreGathered : (ℕ → Standing) → ℕ → List Line → Type 0
-AreGathered standing targets ls = (stable redone : List Line) × AreStable standing 0 targets stable × AreRedone 0 redone × (ls ≡ stable ++ redone)
+-- A target is committed as a recovery begins: it serves, or an earlier recovery that stopped left it with something pending.
+abbrev pub IsGathered : State → ℕ → Type 0
+IsGathered s t = (s.standing t ≡ Serving) ⊎ ((s.standing t ≡ Opened) × (s.pend t ≡ [] → ⊥))
 
-abbrev pub IsWhole : (ℕ → Standing) → ℕ → List Line → Type 0
-IsWhole standing targets ls = (steps : List Line) × (epoch : ℕ) × (kept lost : List ℕ) × AreGathered standing targets steps × (ls ≡ steps ++ Recovered epoch kept lost ∷ [])
+-- a whole recovery: what is pending is committed, what is missing is redone
+abbrev pub AreGathered : State → List Line → Type 0
+AreGathered s ls = (stable redone : List Line) × AreStable (IsGathered s) 0 s.targets stable × AreRedone 0 redone × (ls ≡ stable ++ redone)
+
+abbrev pub IsWhole : State → List Line → Type 0
+IsWhole s ls = (steps : List Line) × (epoch : ℕ) × (kept lost : List ℕ) × AreGathered s steps × (ls ≡ steps ++ Recovered epoch kept lost ∷ [])
 
 -- one that a target's stop ends
-abbrev pub IsBroken : (ℕ → Standing) → ℕ → List Line → Type 0
-IsBroken standing targets ls = (steps front : List Line) × (t : ℕ) × AreGathered standing targets steps × IsFront front steps × (ls ≡ front ++ Stopped t ∷ Missing t ∷ [])
+abbrev pub IsBroken : State → List Line → Type 0
+IsBroken s ls = (steps front : List Line) × (t : ℕ) × AreGathered s steps × IsFront front steps × (ls ≡ front ++ Stopped t ∷ Missing t ∷ [])
 
-abbrev pub RecoverLines : (ℕ → Standing) → ℕ → List Line → Type 0
-RecoverLines standing targets ls =
-    ((t : ℕ) × IsLowest IsDown standing targets t × (ls ≡ Missing t ∷ []))
-    ⊎ (((t : ℕ) → t < targets → IsDown (standing t) → ⊥) × (IsWhole standing targets ls ⊎ IsBroken standing targets ls))
+abbrev pub RecoverLines : State → List Line → Type 0
+RecoverLines s ls =
+    ((t : ℕ) × IsLowest IsDown s.standing s.targets t × (ls ≡ Missing t ∷ []))
+    ⊎ (((t : ℕ) → t < s.targets → IsDown (s.standing t) → ⊥) × (IsWhole s ls ⊎ IsBroken s ls))
 
 abbrev pub CommitLines : Standing → ℕ → List Line → Type 0
 CommitLines Serving t ls = ((ns : List ℕ) × (ls ≡ Stable t ns ∷ [])) ⊎ (ls ≡ Stopped t ∷ [])
@@ -113,8 +118,8 @@ EndLines standing targets ls =
     ((t : ℕ) × IsLowest Fails standing targets t × (ls ≡ End_target t ∷ []))
     ⊎ (((t : ℕ) → t < targets → standing t ≡ Serving)
     × (((n : ℕ) × (ls ≡ End_request n ∷ []))
-    ⊎ (((steps : List Line) × AreStable standing 0 targets steps × (ls ≡ steps ++ End_clean ∷ []))
-    ⊎ ((steps front : List Line) × (t : ℕ) × AreStable standing 0 targets steps × IsFront front steps × (ls ≡ front ++ Stopped t ∷ End_target t ∷ [])))))
+    ⊎ (((steps : List Line) × AreStable (λ t. standing t ≡ Serving) 0 targets steps × (ls ≡ steps ++ End_clean ∷ []))
+    ⊎ ((steps front : List Line) × (t : ℕ) × AreStable (λ t. standing t ≡ Serving) 0 targets steps × IsFront front steps × (ls ≡ front ++ Stopped t ∷ End_target t ∷ [])))))
 
 -- targets whose formatting failed, ascending
 abbrev pub AreStopped : ℕ → ℕ → List Line → Type 0
@@ -122,19 +127,26 @@ AreStopped t targets [] = Unit {0}
 AreStopped t targets (Stopped u ∷ more) = (t ≤ u) × (u < targets) × AreStopped (suc u) targets more
 AreStopped t targets _ = ⊥
 
-abbrev pub IsGroup : (ℕ → Standing) → ℕ → Command → List Line → Type 0
-IsGroup standing targets (Cluster made) ls = AreStopped 0 made ls
-IsGroup standing targets (Send request) ls = ls ≡ []
-IsGroup standing targets (Again number) ls = ls ≡ []
-IsGroup standing targets (Drop message) ls = ls ≡ []
-IsGroup standing targets Resend ls = ls ≡ []
-IsGroup standing targets (Fuse target after choice) ls = ls ≡ []
-IsGroup standing targets (Deliver message) ls = AreDeliveries ls
-IsGroup standing targets Settle ls = AreDeliveries ls ⊎ ((front : List Line) × AreDeliveries front × (ls ≡ front ++ Unsettled ∷ []))
-IsGroup standing targets (Commit target) ls = CommitLines (standing target) target ls
-IsGroup standing targets (Crash target) ls = CrashLines (standing target) target ls
-IsGroup standing targets (Restart target) ls = RestartLines (standing target) target ls
-IsGroup standing targets Recover ls = RecoverLines standing targets ls
-IsGroup standing targets Tree_shown ls = TreeLines standing targets ls
-IsGroup standing targets (Log_shown target) ls = LogLines (standing target) target ls
-IsGroup standing targets End ls = EndLines standing targets ls
+-- undelivered messages, ascending
+abbrev pub AreMessages : ℕ → List Line → Type 0
+AreMessages k [] = Unit {0}
+AreMessages k (Undelivered m n ∷ more) = (k ≤ m) × AreMessages (suc m) more
+AreMessages k _ = ⊥
+
+abbrev pub IsGroup : State → Command → List Line → Type 0
+IsGroup s (Cluster made) ls = AreStopped 0 made ls
+IsGroup s (Send request) ls = ls ≡ []
+IsGroup s (Again number) ls = ls ≡ []
+IsGroup s (Drop message) ls = ls ≡ []
+IsGroup s Resend ls = ls ≡ []
+IsGroup s (Fuse target after choice) ls = ls ≡ []
+IsGroup s (Deliver message) ls = AreDeliveries ls
+IsGroup s Settle ls = AreDeliveries ls ⊎ ((front : List Line) × AreDeliveries front × (ls ≡ front ++ Unsettled ∷ []))
+IsGroup s (Commit target) ls = CommitLines (s.standing target) target ls
+IsGroup s (Crash target) ls = CrashLines (s.standing target) target ls
+IsGroup s (Restart target) ls = RestartLines (s.standing target) target ls
+IsGroup s Recover ls = RecoverLines s ls
+IsGroup s Tree_shown ls = TreeLines s.standing s.targets ls
+IsGroup s (Log_shown target) ls = LogLines (s.standing target) target ls
+IsGroup s Messages_shown ls = AreMessages 0 ls
+IsGroup s End ls = EndLines s.standing s.targets ls

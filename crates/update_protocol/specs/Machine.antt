@@ -2,7 +2,14 @@
 -- lines alone. It has one plain tree, and no message, hold, clock, record or disk.
 use Rattle.std.specs.Prelude.{Bool, List, Option, Some, None, [], false, true, length, map, suc, zero, ℕ, ◌++◌, ◌+◌, ◌<◌, ◌≤◌, ◌∷◌, ◌==◌, ◌&&◌, ◌||◌, ◌≡◌, ◌⊎◌, not, if◌then◌else◌}
 use Rattle.std.specs.List.{AllByRecursion}
+use Rattle.fid_space.specs.Places.{place_of}
 use Rattle.fid_space.specs.Targets.{is_member}
+use Rattle.fid_space.specs.declared.fid.Fid.{Fid}
+use Rattle.op_laws.specs.Near.{IsNear}
+use Rattle.op_laws.specs.Objects.{is_among, stands}
+use Rattle.tree_model.specs.Keys.{AllKey, Key, Laid, NameKey, NodeKey}
+use Rattle.tree_model.specs.Laws.{Among}
+use Rattle.tree_model.specs.Looks.{looks}
 use Rattle.tree_model.specs.declared.op.Op.{Op}
 use Rattle.tree_model.specs.declared.op.Op.TheVariants as ops
 use Rattle.tree_model.specs.declared.op.Request.{Request}
@@ -17,7 +24,7 @@ use Rattle.tree_shares.specs.Seats.{SameSeat}
 use Rattle.update_protocol.specs.Lists.{IsIn, Rising, put}
 use Rattle.update_protocol.specs.Parts.{numbers_of}
 use Rattle.update_protocol.specs.Rows.{has}
-use Rattle.update_protocol.specs.Seats.{Newest}
+use Rattle.update_protocol.specs.Seats.{Newest, is_read}
 use Rattle.update_protocol.specs.World.{History}
 
 -- STATE
@@ -97,6 +104,7 @@ pub data Line : Type 0 where
   Full : (number target load need : ℕ) → Line
   Recovering : (number target : ℕ) → Line
   Ignored : (message : ℕ) → Line
+  Undelivered : (message number : ℕ) → Line
   Unsettled : Line
   Shared : (target number writer : ℕ) → Line
   Stable : (target : ℕ) (numbers : List ℕ) → Line
@@ -115,12 +123,6 @@ pub data Line : Type 0 where
   End_request : (number : ℕ) → Line
 
 -- WHAT EACH LINE WANTS
-
-abbrev pub is_read : Op → Bool
-is_read (ops.Lookup parent name) = true
-is_read (ops.GetAttr fid) = true
-is_read (ops.GetXattr fid name) = true
-is_read _ = false
 
 abbrev pub AllServe : State → Type 0
 AllServe s = (t : ℕ) → t < s.targets → s.standing t ≡ Serving
@@ -157,6 +159,75 @@ pub record Answers (s : State) (n : ℕ) (reply : Reply) : Type 0 where
   pub kept : is_read comes.request.op ≡ false
       → IsIn (record { request = comes.request; reply = reply }) (history_of s)
       × AllByRecursion (λ i. SameSeat s.targets i.request comes.request → i.request.number ≤ n) (history_of s)
+
+-- A request that isn't a read is late: its home serves, and there its client's last number is a greater one.
+pub record IsLate (s : State) (n last : ℕ) : Type 0 where
+  pub comes : Comes s n
+  pub changes : is_read comes.request.op ≡ false
+  pub item : Item
+  pub accepted : IsIn item (history_of s)
+  pub same_seat : SameSeat s.targets item.request comes.request
+  pub numbered : item.request.number ≡ last
+  pub is_last : AllByRecursion (λ i. SameSeat s.targets i.request comes.request → i.request.number ≤ last) (history_of s)
+  pub later : n < last
+
+-- the objects at which a key is looked up
+abbrev pub looked_up : ℕ → Laid → Key → List Fid
+looked_up targets l (NodeKey f) = f ∷ []
+looked_up targets l (NameKey d x) = stands targets l (NameKey d x)
+looked_up targets l (AllKey d) = stands targets l (AllKey d)
+
+-- an operation looks at something that is looked up on the target
+abbrev pub LooksOn : ℕ → Laid → Op → ℕ → Type 0
+LooksOn targets l op target = (k : Key) × Among (looks targets l.tree op) k × (f : Fid) × (is_among (looked_up targets l k) f ≡ true) × (place_of targets f ≡ Some target)
+
+-- an operation has the target for its home, looks at something there, or is on it
+abbrev pub Needs : ℕ → Laid → Op → ℕ → Type 0
+Needs targets l op target = (home_of targets op ≡ Some target) ⊎ (LooksOn targets l op target ⊎ (is_member (on targets l op) target ≡ true))
+
+-- A request that was sent needs a target that doesn't serve.
+pub record IsRecovering (s : State) (n target : ℕ) : Type 0 where
+  pub request : Request
+  pub was_sent : IsIn request s.sent
+  pub numbered : request.number ≡ n
+  pub stopped : s.standing target ≡ Serving → ⊥
+  pub needs : Needs s.targets (laid_of s.targets (history_of s)) request.op target
+
+-- the room that an operation is given on each of its targets, in bytes
+abbrev pub room_of : Op → ℕ
+room_of (ops.Unlink parent name) = 131072
+room_of (ops.Rmdir parent name) = 131072
+room_of (ops.SetAttr fid mode uid gid) = 131072
+room_of (ops.DelXattr fid name) = 131072
+room_of _ = 1179648
+
+-- A request that isn't a read is on a target whose load leaves no room for it.
+pub record IsFull (s : State) (n target load need : ℕ) : Type 0 where
+  pub comes : Comes s n
+  pub changes : is_read comes.request.op ≡ false
+  pub takes_part : is_member (on s.targets (laid_of s.targets (history_of s)) comes.request.op) target ≡ true
+  pub given : need ≡ room_of comes.request.op
+  pub too_much : 5242880 < load + need
+
+-- the entries before the one with the number
+abbrev pub entries_before : ℕ → List Entry → List Entry
+entries_before n [] = []
+entries_before n (e ∷ es) = if number e == n then [] else e ∷ entries_before n es
+
+-- A commit is shared for a request that was sent: an entry that is pending at the target is near to it, and lacks one of
+-- the targets that it is on.
+pub record IsShared (s : State) (target n writer : ℕ) : Type 0 where
+  pub request : Request
+  pub was_sent : IsIn request s.sent
+  pub numbered : request.number ≡ n
+  pub entry : Entry
+  pub accepted : IsIn entry s.since
+  pub written_by : number entry ≡ writer
+  pub pends : IsIn writer (s.pend target)
+  pub near : IsNear s.targets (laid_of s.targets (s.before ++ map (λ e. e.item) (entries_before writer s.since))) entry.item.request.op (laid_of s.targets (history_of s)) request.op
+  pub lacks : ℕ
+  pub takes_part : is_member (on s.targets (laid_of s.targets (history_of s)) request.op) lacks ≡ true
+  pub uncovered : is_member entry.on lacks ≡ false
 
 -- a record is executed on a target that it names, which serves, isn't its home and didn't execute it
 pub record Executes (s : State) (n target : ℕ) (next : State) : Type 0 where
@@ -273,12 +344,13 @@ Says s End_clean others next = AllServe s × (next ≡ s)
 Says s (End_target target) others next = (s.standing target ≡ Serving → ⊥) × (next ≡ s)
 Says s (End_request n) others next = AllServe s × (next ≡ s)
 Says s (Busy n holder) others next = next ≡ s
-Says s (Stale n last) others next = next ≡ s
-Says s (Full n target load need) others next = next ≡ s
-Says s (Recovering n target) others next = next ≡ s
+Says s (Stale n last) others next = IsLate s n last × (next ≡ s)
+Says s (Full n target load need) others next = IsFull s n target load need × (next ≡ s)
+Says s (Recovering n target) others next = IsRecovering s n target × (next ≡ s)
 Says s (Ignored message) others next = next ≡ s
+Says s (Undelivered message number) others next = next ≡ s
 Says s Unsettled others next = next ≡ s
-Says s (Shared target n writer) others next = IsIn writer (s.pend target) × (next ≡ s)
+Says s (Shared target n writer) others next = IsShared s target n writer × (next ≡ s)
 
 abbrev pub SaysAll : State → List Line → State → Type 0
 SaysAll s [] next = next ≡ s

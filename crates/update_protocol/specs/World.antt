@@ -9,7 +9,7 @@ use Rattle.op_laws.specs.Objects.{is_among, saw}
 use Rattle.out_update.specs.declared.result.UpdateResult.{UpdateResult}
 use Rattle.out_update.specs.declared.update.Update.{Update}
 use Rattle.std.specs.Option.{unwrap_or}
-use Rattle.std.specs.Prelude.{Bool, List, Option, Some, [], if◌then◌else◌, length, suc, true, zero, zip, ℕ, ◌++◌, ◌<◌, ◌==◌, ◌∷◌, ◌≡◌}
+use Rattle.std.specs.Prelude.{Bool, List, Option, Some, [], if◌then◌else◌, length, suc, true, zero, zip, false, ℕ, ◌++◌, ◌<◌, ◌==◌, ◌∷◌, ◌≡◌}
 use Rattle.tree_model.specs.History.{Item}
 use Rattle.tree_model.specs.OpText.{IsOp}
 use Rattle.tree_model.specs.Participants.{home_of}
@@ -21,7 +21,7 @@ use Rattle.tree_shares.specs.Parts.{named_in, parts}
 use Rattle.update_protocol.specs.Facts.{Fact, Fits, Parts, laid}
 use Rattle.update_protocol.specs.Lists.{IsIn}
 use Rattle.tree_shares.specs.Seats.{Share, seated}
-use Rattle.update_protocol.specs.Seats.{Newest}
+use Rattle.update_protocol.specs.Seats.{Newest, is_read}
 use Rattle.update_record.specs.Spelling.{has_target, part_for}
 
 -- ATTEMPTS AND MESSAGES
@@ -169,6 +169,7 @@ after_items h (x ∷ xs) = after_items (grown h x) xs
 pub record Matches (targets : ℕ) (h : History) (x : Accepted) : Type 0 where
   pub fits : Fits targets h
   pub is_op : IsOp targets (request_of x).op
+  pub changes : is_read (request_of x).op ≡ false
   pub home : home_of targets (request_of x).op ≡ Some (master x)
   pub newest : Newest targets h (request_of x)
   pub reply : x.reply ≡ (step targets (laid targets h).tree (request_of x).op).1

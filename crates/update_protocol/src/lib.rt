@@ -7,30 +7,34 @@
 //! rest on the laws where its turns are events of this machine.
 #![tactic(auto)]
 
-ghost use Rattle.std.specs.Prelude.{[], Bool, List, Some, false, length, suc, take, true, ℕ, ◌++◌, ◌+◌, ◌∷◌, ◌<◌, ◌≡◌, ◌≢◌};
+ghost use Rattle.std.specs.Prelude.{[], Bool, List, None, Some, false, length, suc, take, true, ℕ, ◌++◌, ◌+◌, ◌∷◌, ◌<◌, ◌≡◌, ◌≢◌, ◌⊎◌};
 ghost use Rattle.std.specs.FinMap.{get};
-ghost use Rattle.tree_model.specs.History.{IsLegal};
+ghost use Rattle.fid_space.specs.Targets.{is_member};
+ghost use Rattle.fid_space.specs.declared.fid.Fid.{Fid};
+ghost use Rattle.tree_model.specs.History.{IsLegal, tree_of};
 ghost use Rattle.tree_model.specs.Participants.{home_of};
 ghost use Rattle.tree_model.specs.Kept.{HasNumber, IsKept, laid_of};
+ghost use Rattle.tree_model.specs.Step.{step};
 ghost use Rattle.tree_model.specs.Striped.{on};
 ghost use Rattle.tree_model.specs.declared.errno.Errno.{Errno};
 ghost use Rattle.tree_model.specs.declared.op.Request.{Request};
 ghost use Rattle.tree_model.specs.declared.reply.Reply.{Reply};
-ghost use Rattle.update_protocol.specs.Epochs.{Epoch, Reached, Story, kept_of};
-ghost use Rattle.update_protocol.specs.Events.{Accept, Adopt, Commit, Execute_comes, May, Start, Stop, Tear, fresh, happens, has_now};
+ghost use Rattle.update_protocol.specs.Epochs.{Epoch, Reached, Redos, Story, kept_of};
+ghost use Rattle.update_protocol.specs.Events.{Accept, Adopt, AreHeard, Commit, Execute_comes, Give_up, May, Run, Send, Start, Stop, Sync_comes, Tear, fresh, happens, has_now};
 ghost use Rattle.op_laws.specs.Laws.{IsCount};
+ghost use Rattle.update_protocol.specs.Facts.{AreTrue, Fits, Imply};
 ghost use Rattle.update_protocol.specs.Laws.{Laws};
 ghost use Rattle.update_protocol.specs.Lists.{IsIn, Rising, put};
-ghost use Rattle.update_protocol.specs.Machine.{Accept as Accept_line, Done, Down, Line, Log, Opened, Recovered, Redone, Replies, Says, Serving, Shared, Stable, Stopped, Up, is_read, stands_after, stays_smooth};
+ghost use Rattle.update_protocol.specs.Machine.{Accept as Accept_line, Done, Down, End_clean, Full, Line, Log, Needs, Opened, Recovered, Recovering, Redone, Replies, Says, Serving, Shared, Shows, Stable, Stale, Stopped, Up, room_of, stands_after, stays_smooth};
 ghost use Rattle.update_protocol.specs.Near.{Cause};
 ghost use Rattle.update_protocol.specs.States.{IsSplit, Spoken, gathered_state, listed, number_at, numbers_at, state_of};
 ghost use Rattle.update_protocol.specs.Parts.{IsSent, all_of, entries_of, numbers_of, passing};
 ghost use Rattle.update_protocol.specs.Progress.{Asking, Note, Turn, Turns, idle};
 ghost use Rattle.update_protocol.specs.Recovery.{Gathered, Redo, before_item, kept_items};
 ghost use Rattle.update_protocol.specs.Rows.{AreOfCut, FitsLog, FitsTarget, live, pending};
-ghost use Rattle.update_protocol.specs.Seats.{Newest};
+ghost use Rattle.update_protocol.specs.Seats.{Newest, is_read};
 ghost use Rattle.tree_shares.specs.Seats.{share_of};
-ghost use Rattle.update_protocol.specs.World.{Accepted, Attempt, Each, Follows, History, Sync, Synced, World, after_items, at, count_home, is_on, made, master, request_of};
+ghost use Rattle.update_protocol.specs.World.{Accepted, Answer, Attempt, Covers, Each, Follows, History, Named, Sync, Synced, World, after_items, at, count_home, facts_of, is_on, made, master, request_of, saw_of, wrote_of};
 ghost use Rattle.update_record.specs.Spelling.{targets_from};
 
 use op_laws::{
@@ -98,6 +102,39 @@ pub fn what_is_accepted_is_new()
     operations_have_laws();
 }
 
+/// What an attempt was told is true of the history as it is now, as long as the attempt is current: what follows over each
+/// history of which it is true follows over this one.
+pub fn what_is_told_is_true()
+    ensures told { (targets : ℕ) → IsCount targets → (h : History) (w : World) → Reached targets h w → (m : ℕ) (a : Attempt) → w.trying m ≡ Some a → (answers : List Answer) → AreHeard targets w.pool a answers
+        → AreTrue targets (laid_of targets (h ++ entries_of w.since)) (facts_of answers) }
+    ensures fits { (targets : ℕ) → IsCount targets → (h : History) (w : World) → Reached targets h w → length (h ++ entries_of w.since) < 0x0ffffffe → Fits targets (h ++ entries_of w.since) }
+{
+    operations_have_laws();
+}
+
+/// Who wrote an object before that an accepted operation wrote or was told of is named by some target, or is on each target
+/// of the operation. So neither an operation nor a refusal is accepted where it rests on a writer that no target has
+/// committed and that lacks one of its targets.
+pub fn what_an_accept_rests_on_is_safe()
+    ensures safe { (targets : ℕ) → IsCount targets → (h : History) (w : World) → Reached targets h w → (m : ℕ) (x : Accepted) → May targets w (Accept m x) → (n : ℕ) → n < length w.since → (f : Fid) → wrote_of (at w.since n) f ≡ true
+        → (saw_of x f ≡ true) ⊎ (wrote_of x f ≡ true) → Named w.disk n ⊎ Covers (at w.since n) x }
+    ensures waits { (targets : ℕ) → IsCount targets → (h : History) (w : World) → Reached targets h w → (m : ℕ) (x : Accepted) (n : ℕ) → n < length w.since → (f : Fid) → wrote_of (at w.since n) f ≡ true → saw_of x f ≡ true
+        → (Named w.disk n → ⊥) → (lacks : ℕ) → is_on x lacks ≡ true → is_on (at w.since n) lacks ≡ false → May targets w (Accept m x) → ⊥ }
+{
+    operations_have_laws();
+}
+
+/// A target that is up and that nothing holds has its share of all that was accepted, with its seats. So has its disk where
+/// everything there is committed.
+pub fn a_free_target_has_its_share()
+    ensures memory { (targets : ℕ) → IsCount targets → (h : History) (w : World) → Reached targets h w → (t : ℕ) → t < targets → w.up t ≡ true → w.holder t ≡ None
+        → has_now targets w t ≡ share_of targets (h ++ entries_of w.since) t }
+    ensures disk { (targets : ℕ) → IsCount targets → (h : History) (w : World) → Reached targets h w → (t : ℕ) → t < targets → w.up t ≡ true → w.holder t ≡ None → ((n : ℕ) → IsIn n (w.done t) → IsIn n (w.disk t))
+        → made targets w.since t (w.disk t) (share_of targets h t) ≡ share_of targets (h ++ entries_of w.since) t }
+{
+    operations_have_laws();
+}
+
 /// What lines may show. What is pending at a target stands behind what is committed there. Both images that its disk
 /// may have after a commit that failed fit it, and so does its log; the transaction number is counted from the
 /// epoch's start.
@@ -146,6 +183,22 @@ pub fn each_shared_line_has_its_cause()
 pub fn a_cancelled_record_is_everywhere()
     ensures everywhere { (targets : ℕ) → IsCount targets → (h : History) (w : World) → Reached targets h w
         → (t n : ℕ) → IsIn n (w.gone t) → (s : ℕ) → is_on (at w.since n) s ≡ true → IsIn n (w.disk s) }
+{
+    operations_have_laws();
+}
+
+/// What a recovery begins with is gathered where everything is committed that will be, and redo leaves it so. What is redone
+/// is the same whether the marks and the cancelled records are those that are committed or those in memory.
+pub fn what_is_gathered()
+    ensures committed { (targets : ℕ) → IsCount targets → (h : History) (w : World) → Reached targets h w → (kept : ℕ → Bool) → Each (λ n a. (kept n ≡ true → Named w.disk n) × (Named w.disk n → kept n ≡ true)) w.since
+        → Gathered targets w.base w.since w.disk w.kept_mark w.kept_gone kept }
+    ensures in_memory { (targets : ℕ) → IsCount targets → (h : History) (w : World) → Reached targets h w → (kept : ℕ → Bool) → Each (λ n a. (kept n ≡ true → Named w.disk n) × (Named w.disk n → kept n ≡ true)) w.since
+        → Gathered targets w.base w.since w.disk w.mark w.gone kept }
+    ensures redone { (targets : ℕ) → IsCount targets → (base : History) (since : List Accepted) (disk : ℕ → List ℕ) (mark : ℕ → ℕ) (gone : ℕ → List ℕ) (kept : ℕ → Bool)
+        → Gathered targets base since disk mark gone kept → (t : ℕ) (extra : List ℕ) → Redo since disk mark gone t extra → Gathered targets base since (put disk t (disk t ++ extra)) mark gone kept }
+    ensures alike { (targets : ℕ) → IsCount targets → (base : History) (since : List Accepted) (disk : ℕ → List ℕ) (mark : ℕ → ℕ) (gone : ℕ → List ℕ) (kept : ℕ → Bool)
+        → Gathered targets base since disk mark gone kept → (other : ℕ → ℕ) (dropped : ℕ → List ℕ) → Gathered targets base since disk other dropped kept
+        → (t : ℕ) (extra : List ℕ) → Redo since disk mark gone t extra → Redo since disk other dropped t extra }
 {
     operations_have_laws();
 }
@@ -208,7 +261,7 @@ pub fn nothing_is_held_when_all_is_delivered()
 /// of the next world.
 pub fn events_say_rows()
     ensures accepted { (targets : ℕ) → IsCount targets → (h : History) (w : World) → Reached targets h w → (sent : ℕ → Request) → IsSent sent (h ++ entries_of w.since) → (o : Spoken)
-        → (m : ℕ) (x : Accepted) → May targets w (Accept m x) → request_of x ≡ sent (request_of x).number → IsIn (request_of x) o.sent → is_read (request_of x).op ≡ false → o.standing m ≡ Serving → (rest : List Line)
+        → (m : ℕ) (x : Accepted) → May targets w (Accept m x) → request_of x ≡ sent (request_of x).number → IsIn (request_of x) o.sent → o.standing m ≡ Serving → (rest : List Line)
         → Says (state_of targets o w) (Accept_line (request_of x).number x.reply (targets_from 0 x.parts)) (Replies (request_of x).number x.reply ∷ rest) (state_of targets o (happens w (Accept m x))) }
     ensures executed { (targets : ℕ) → IsCount targets → (h : History) (w : World) → Reached targets h w → (sent : ℕ → Request) → IsSent sent (h ++ entries_of w.since) → (o : Spoken)
         → (n t : ℕ) → May targets w (Execute_comes n t) → o.standing t ≡ Serving → (others : List Line)
@@ -223,17 +276,68 @@ pub fn events_say_rows()
         → (t : ℕ) (others : List Line) → Says (state_of targets o w) (Up t (o.start t + length (w.disk t)) (numbers_at w.since (live (w.disk t) (w.kept_gone t)))) others (state_of targets (record o { standing = put o.standing t Opened }) w) }
     ensures new_image { (targets : ℕ) → IsCount targets → (h : History) (w : World) → Reached targets h w → (sent : ℕ → Request) → IsSent sent (h ++ entries_of w.since) → (o : Spoken)
         → (t : ℕ) → May targets w (Adopt t) → (others : List Line) → Says (state_of targets o w) (Up t (o.start t + length (w.torn t)) (numbers_at w.since (live (w.torn t) (w.torn_gone t)))) others (state_of targets (record o { standing = put o.standing t Opened }) (happens w (Adopt t))) }
+{
+    operations_have_laws();
+    targets_are_those_of_the_parts();
+}
+
+/// What a home answers, as lines: behind an accept, to a repeat, to a request that is late, and to a read whose answers
+/// were told.
+pub fn answers_say_rows()
+    ensures answered { (targets : ℕ) → IsCount targets → (h : History) (w : World) → Reached targets h w → (sent : ℕ → Request) → IsSent sent (h ++ entries_of w.since) → (o : Spoken)
+        → (m : ℕ) (x : Accepted) → May targets w (Accept m x) → IsIn (request_of x) o.sent → o.standing m ≡ Serving → (others : List Line)
+        → Says (state_of targets o (happens w (Accept m x))) (Replies (request_of x).number x.reply) others (state_of targets o (happens w (Accept m x))) }
     ensures repeated { (targets : ℕ) → IsCount targets → (h : History) (w : World) → Reached targets h w → (sent : ℕ → Request) → IsSent sent (h ++ entries_of w.since) → (o : Spoken)
         → (t : ℕ) → w.up t ≡ true → (q : Request) → home_of targets q.op ≡ Some t → (reply : Reply) → get (has_now targets w t).seats q.client ≡ Some (q.number, reply)
         → q ≡ sent q.number → IsIn q o.sent → is_read q.op ≡ false → o.standing t ≡ Serving → (others : List Line) → Says (state_of targets o w) (Replies q.number reply) others (state_of targets o w) }
-    ensures shared { (targets : ℕ) → IsCount targets → (h : History) (w : World) → Reached targets h w → (sent : ℕ → Request) → IsSent sent (h ++ entries_of w.since) → (o : Spoken)
-        → (t number k : ℕ) → IsIn k (pending w t) → (others : List Line) → Says (state_of targets o w) (Shared t number (number_at w.since k)) others (state_of targets o w) }
-    ensures log { (targets : ℕ) → IsCount targets → (h : History) (w : World) → Reached targets h w → (sent : ℕ → Request) → IsSent sent (h ++ entries_of w.since) → (o : Spoken)
-        → (t : ℕ) (indexes : List ℕ) → Rising indexes → length indexes ≡ length (live (w.done t) (w.gone t)) → (o.standing t ≡ Down → ⊥) → (others : List Line)
-        → Says (state_of targets o w) (Log t (listed o.epoch w.since indexes (live (w.done t) (w.gone t)))) others (state_of targets o w) }
+    ensures late { (targets : ℕ) → IsCount targets → (h : History) (w : World) → Reached targets h w → (sent : ℕ → Request) → IsSent sent (h ++ entries_of w.since) → (o : Spoken)
+        → (t : ℕ) → w.up t ≡ true → (q : Request) → home_of targets q.op ≡ Some t → (last : ℕ) (reply : Reply) → get (has_now targets w t).seats q.client ≡ Some (last, reply) → q.number < last
+        → IsIn q o.sent → is_read q.op ≡ false → o.standing t ≡ Serving → (others : List Line) → Says (state_of targets o w) (Stale q.number last) others (state_of targets o w) }
+    ensures read { (targets : ℕ) → IsCount targets → (h : History) (w : World) → Reached targets h w → (sent : ℕ → Request) → IsSent sent (h ++ entries_of w.since) → (o : Spoken)
+        → (m : ℕ) (a : Attempt) → w.trying m ≡ Some a → IsIn a.who.request o.sent → is_read a.who.request.op ≡ true → o.standing m ≡ Serving → length (h ++ entries_of w.since) < 0x0ffffffe
+        → (answers : List Answer) → AreHeard targets w.pool a answers → (reply : Reply) → Imply targets (facts_of answers) (λ l. reply ≡ (step targets l.tree a.who.request.op).1) → (others : List Line)
+        → Says (state_of targets o w) (Replies a.who.request.number reply) others (state_of targets o (happens w (Give_up m a))) }
 {
     operations_have_laws();
     seats_are_last();
+    targets_are_those_of_the_parts();
+}
+
+/// Why a request that came isn't served, and why a commit is shared for one, as lines: its home doesn't serve, or another
+/// target that its answers show it to need; a target that it is on has no room; an entry near to it lacks one of its targets.
+pub fn refusals_say_rows()
+    ensures home_stopped { (targets : ℕ) → IsCount targets → (h : History) (w : World) → Reached targets h w → (sent : ℕ → Request) → IsSent sent (h ++ entries_of w.since) → (o : Spoken)
+        → (q : Request) (t : ℕ) → IsIn q o.sent → home_of targets q.op ≡ Some t → (o.standing t ≡ Serving → ⊥) → (others : List Line)
+        → Says (state_of targets o w) (Recovering q.number t) others (state_of targets o w) }
+    ensures other_stopped { (targets : ℕ) → IsCount targets → (h : History) (w : World) → Reached targets h w → (sent : ℕ → Request) → IsSent sent (h ++ entries_of w.since) → (o : Spoken) → (m : ℕ) (a : Attempt) → w.trying m ≡ Some a → IsIn a.who.request o.sent → length (h ++ entries_of w.since) < 0x0ffffffe
+        → (answers : List Answer) → AreHeard targets w.pool a answers
+        → (t : ℕ) → Imply targets (facts_of answers) (λ l. Needs targets l a.who.request.op t) → (o.standing t ≡ Serving → ⊥) → (others : List Line)
+        → Says (state_of targets o w) (Recovering a.who.request.number t) others (state_of targets o w) }
+    ensures full { (targets : ℕ) → IsCount targets → (h : History) (w : World) → Reached targets h w → (sent : ℕ → Request) → IsSent sent (h ++ entries_of w.since) → (o : Spoken) → (m : ℕ) (a : Attempt) → w.trying m ≡ Some a → IsIn a.who.request o.sent → length (h ++ entries_of w.since) < 0x0ffffffe
+        → (answers : List Answer) → AreHeard targets w.pool a answers
+        → is_read a.who.request.op ≡ false → o.standing m ≡ Serving → (t load : ℕ) → Imply targets (facts_of answers) (λ l. is_member (on targets l a.who.request.op) t ≡ true)
+        → 5242880 < load + room_of a.who.request.op → (others : List Line)
+        → Says (state_of targets o w) (Full a.who.request.number t load (room_of a.who.request.op)) others (state_of targets o w) }
+    ensures shared { (targets : ℕ) → IsCount targets → (h : History) (w : World) → Reached targets h w → (sent : ℕ → Request) → IsSent sent (h ++ entries_of w.since) → (o : Spoken)
+        → length (h ++ entries_of w.since) < 0x0ffffffe → (a : Attempt) (t k : ℕ) → IsIn (Sync a t k) w.pool → w.serving ≡ true → w.up t ≡ true → w.holder t ≡ Some a → (n : ℕ) → IsIn n (pending w t)
+        → IsIn a.who.request o.sent → (others : List Line) → Says (state_of targets o w) (Shared t a.who.request.number (number_at w.since k)) others (state_of targets o w) }
+{
+    operations_have_laws();
+    targets_are_those_of_the_parts();
+}
+
+/// What commands show between two recoveries: the tree of all that was accepted where every target serves, the records of a
+/// log, and the end.
+pub fn commands_say_rows()
+    ensures tree { (targets : ℕ) → IsCount targets → (h : History) (w : World) → Reached targets h w → (sent : ℕ → Request) → IsSent sent (h ++ entries_of w.since) → (o : Spoken)
+        → ((t : ℕ) → t < targets → o.standing t ≡ Serving) → (others : List Line) → Says (state_of targets o w) (Shows (tree_of targets (h ++ entries_of w.since))) others (state_of targets o w) }
+    ensures log { (targets : ℕ) → IsCount targets → (h : History) (w : World) → Reached targets h w → (sent : ℕ → Request) → IsSent sent (h ++ entries_of w.since) → (o : Spoken)
+        → (t : ℕ) (indexes : List ℕ) → Rising indexes → length indexes ≡ length (live (w.done t) (w.gone t)) → (o.standing t ≡ Down → ⊥) → (others : List Line)
+        → Says (state_of targets o w) (Log t (listed o.epoch w.since indexes (live (w.done t) (w.gone t)))) others (state_of targets o w) }
+    ensures ended { (targets : ℕ) → IsCount targets → (h : History) (w : World) → Reached targets h w → (sent : ℕ → Request) → IsSent sent (h ++ entries_of w.since) → (o : Spoken)
+        → ((t : ℕ) → t < targets → o.standing t ≡ Serving) → (others : List Line) → Says (state_of targets o w) End_clean others (state_of targets o w) }
+{
+    operations_have_laws();
     targets_are_those_of_the_parts();
 }
 
@@ -258,6 +362,14 @@ pub fn recoveries_say_rows()
         (gathered_state targets (record o { standing = put o.standing t Opened }) base since (put disk t (disk t ++ extra))) }
     ensures renewed_image { (targets : ℕ) → IsCount targets → (h : History) → Story targets h → (e : Epoch targets h) → (sent : ℕ → Request) → IsSent sent (h ++ entries_of e.world.since) → (o : Spoken)
         → (t : ℕ) (others : List Line) → Says (gathered_state targets o h e.world.since e.disks) (Up t (o.start t + length (e.disks t)) []) others (gathered_state targets (record o { standing = put o.standing t Opened }) h e.world.since e.disks) }
+    ensures log { (targets : ℕ) → IsCount targets → (h : History) (w : World) → Reached targets h w → (sent : ℕ → Request) → IsSent sent (h ++ entries_of w.since) → (o : Spoken)
+        → (kept : ℕ → Bool) → Each (λ n a. (kept n ≡ true → Named w.disk n) × (Named w.disk n → kept n ≡ true)) w.since → (redos : List (ℕ × List ℕ)) (disks : ℕ → List ℕ) → Redos w w.disk redos disks
+        → (t : ℕ) (indexes : List ℕ) → Rising indexes → length indexes ≡ length (live (disks t) (w.kept_gone t)) → (o.standing t ≡ Down → ⊥) → (others : List Line)
+        → Says (gathered_state targets o w.base w.since disks) (Log t (listed o.epoch w.since indexes (live (disks t) (w.kept_gone t)))) others (gathered_state targets o w.base w.since disks) }
+    ensures emptied_log { (targets : ℕ) → IsCount targets → (h : History) (w : World) → Reached targets h w → (sent : ℕ → Request) → IsSent sent (h ++ entries_of w.since) → (o : Spoken)
+        → (kept : ℕ → Bool) → Each (λ n a. (kept n ≡ true → Named w.disk n) × (Named w.disk n → kept n ≡ true)) w.since → (redos : List (ℕ × List ℕ)) (disks : ℕ → List ℕ) → Redos w w.disk redos disks
+        → ((s : ℕ) → Redo w.since disks w.kept_mark w.kept_gone s []) → (t : ℕ) → (o.standing t ≡ Down → ⊥) → (others : List Line)
+        → Says (gathered_state targets o w.base w.since disks) (Log t []) others (gathered_state targets o w.base w.since disks) }
     ensures recovered { (targets : ℕ) → IsCount targets → (h : History) → Story targets h → (e : Epoch targets h) → (sent : ℕ → Request) → IsSent sent (h ++ entries_of e.world.since) → (o : Spoken)
         → (epoch : ℕ) → o.epoch < epoch → (o.smooth ≡ true → epoch ≡ suc o.epoch) → (kept lost : List ℕ) → IsSplit e.world.since e.kept kept lost → (s : Start) (others : List Line)
         → Says (gathered_state targets o h e.world.since e.disks) (Recovered epoch kept lost) others
@@ -298,11 +410,12 @@ pub fn a_record_can_be_cancelled()
     shares_tell();
 }
 
-/// There is a run in which an operation is refused by what another one wrote on a target where the refusal takes no part:
-/// the refusal may be accepted behind a sync of that target, which was sent while the writer was pending there.
+/// There is a run in which an operation is refused by what another one wrote on a target where the refusal takes no part, and
+/// where the writer is pending: the refusal may not be accepted there, but behind a sync of that target it may.
 pub fn a_refusal_can_wait_for_a_commit()
-    ensures waited { (w : World) × (x : Accepted) × Reached 3 [] w × May 3 w (Accept 0 x) × (x.reply ≡ Reply.Err Errno.EEXIST) × (is_on x 0 ≡ true) × (is_on x 1 ≡ false)
-        × (is_on (at w.since 1) 0 ≡ false) × IsIn (Sync x.attempt 1 1) w.pool × IsIn (Synced x.attempt 1) w.pool }
+    ensures waited { (x : Accepted) × (x.reply ≡ Reply.Err Errno.EEXIST) × (is_on x 0 ≡ true) × (is_on x 1 ≡ false)
+        × (w : World) × Reached 3 [] w × (is_on (at w.since 1) 0 ≡ false) × IsIn 1 (pending w 1) × (May 3 w (Accept 0 x) → ⊥)
+        × (v : World) × Run 3 w (Send (Sync x.attempt 1 1) ∷ Commit 1 ∷ Sync_comes x.attempt 1 1 ∷ []) v × Reached 3 [] v × May 3 v (Accept 0 x) }
 {
     operations_have_laws();
     histories_keep_trees_sound();

@@ -9,7 +9,7 @@ use Rattle.update_protocol.specs.World.{History, World, at, made}
 use Rattle.update_protocol.proofs.LetsGo.{none_some}
 use Rattle.update_protocol.proofs.Runs.{base_kept}
 use Rattle.update_protocol.proofs.Saying.{inv}
-use Rattle.update_protocol.proofs.SayingAnswers.{grown_is}
+use Rattle.update_protocol.proofs.SayingAccept.{grown_is}
 use Rattle.update_protocol.proofs.SayingRecovery.{none_pends}
 use Rattle.update_protocol.proofs.Setting.{Setting}
 use Rattle.update_protocol.proofs.Shares.{share_made}

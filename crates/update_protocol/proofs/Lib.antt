@@ -45,9 +45,11 @@ pub mod SayingRecovery
 pub mod Free
 pub mod Resting
 pub mod SayingRecovered
+pub mod SayingWhole
 pub mod Making
 pub mod Lives
 pub mod Cancels
 pub mod Refusals
+pub mod LookingUp
 pub mod Renaming
 pub mod Renames

@@ -112,7 +112,7 @@ pub no_nodes : (f : Fid) → eq_by_cmp fid_cmp f root_fid ≡ false → get (lai
 no_nodes f other = get-insert fids_total empty root_fid root_node f ∙ ap (λ b. cond b (Some root_node) (get {R = fid_cmp} (empty {R = fid_cmp}) f)) other ∙ get-empty {X = Node} fid_cmp f
 
 module _ (b : Below) where
-  name_free : name_result.code ≡ 2
+  pub name_free : name_result.code ≡ 2
   name_free =
       let sound = b.sounds 3 [] tt in
       let root = root_there 3 0 (laid 3 []) sound in

@@ -52,6 +52,9 @@ none_has : (n : ℕ) (h : History) → (HasNumber n h → ⊥) → AllByRecursio
 none_has n [] none = tt
 none_has n (i ∷ h) none = ((λ e. none (inl e)), none_has n h (λ m. none (inr m)))
 
+pub grown_is : (σ : Setting) (h : History) (w : World) (r : Reached σ.targets h w) → after_items w.base w.since ≡ h ++ entries_of w.since
+grown_is σ h w r = ap (λ b. after_items b w.since) (base_kept σ r.events (fresh r.start h) w r.run) ∙ after_joined h w.since
+
 module _ (σ : Setting) (h : History) (w : World) (r : Reached σ.targets h w) (sent : ℕ → Request) (known : IsSent sent (h ++ entries_of w.since)) (o : Spoken) where
   abbrev now : State
   now = state_of σ.targets o w

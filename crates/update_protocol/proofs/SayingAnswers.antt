@@ -9,7 +9,7 @@ use Rattle.tree_model.specs.declared.op.Request.{Request}
 use Rattle.tree_model.specs.declared.reply.Reply.{Reply}
 use Rattle.tree_shares.specs.Seats.{SameSeat}
 use Rattle.update_protocol.specs.Epochs.{Reached}
-use Rattle.update_protocol.specs.Events.{Accept, AreHeard, May, fresh, happens}
+use Rattle.update_protocol.specs.Events.{Accept, AreHeard, May, happens}
 use Rattle.update_protocol.specs.Facts.{AreTrue, Fits, Imply, laid}
 use Rattle.update_protocol.specs.Lists.{IsIn}
 use Rattle.update_protocol.specs.Machine.{Answers, Serving, State, history_of}
@@ -20,23 +20,19 @@ use Rattle.update_protocol.specs.World.{Accepted, Answer, Attempt, History, Worl
 use Rattle.update_protocol.proofs.Basics.{mem_last}
 use Rattle.update_protocol.proofs.Hearing.{all_true}
 use Rattle.update_protocol.proofs.Legal.{after_joined}
-use Rattle.update_protocol.proofs.Runs.{base_kept}
 use Rattle.update_protocol.proofs.Saying.{inv}
-use Rattle.update_protocol.proofs.SayingAccept.{home, items_are, matches, whole_is}
+use Rattle.update_protocol.proofs.SayingAccept.{grown_is, home, items_are, matches, whole_is}
 use Rattle.update_protocol.proofs.SayingReply.{all_of_them}
 use Rattle.update_protocol.proofs.Seating.{all_push, ops_after}
 use Rattle.update_protocol.proofs.Setting.{Setting}
 use Rattle.update_protocol.proofs.Shares.{tree_push}
 
 module _ (σ : Setting) (h : History) (w : World) (r : Reached σ.targets h w) where
-  pub grown_is : after_items w.base w.since ≡ h ++ entries_of w.since
-  grown_is = ap (λ b. after_items b w.since) (base_kept σ r.events (fresh r.start h) w r.run) ∙ after_joined h w.since
-
   pub fits_now : length (h ++ entries_of w.since) < 0x0ffffffe → Fits σ.targets (h ++ entries_of w.since)
-  fits_now few = record { each = subst (λ g. AllByRecursion (λ i. IsOp σ.targets i.request.op) g) grown_is (ops_after σ.targets w.base w.since (inv σ h w r).grounded.each (inv σ h w r).follows); few = few }
+  fits_now few = record { each = subst (λ g. AllByRecursion (λ i. IsOp σ.targets i.request.op) g) (grown_is σ h w r) (ops_after σ.targets w.base w.since (inv σ h w r).grounded.each (inv σ h w r).follows); few = few }
 
   pub told_now : (m : ℕ) (a : Attempt) → w.trying m ≡ Some a → (answers : List Answer) → AreHeard σ.targets w.pool a answers → AreTrue σ.targets (laid σ.targets (h ++ entries_of w.since)) (facts_of answers)
-  told_now m a current answers heard = subst (λ g. AreTrue σ.targets (laid σ.targets g) (facts_of answers)) grown_is (all_true σ w (inv σ h w r) m a current answers heard)
+  told_now m a current answers heard = subst (λ g. AreTrue σ.targets (laid σ.targets g) (facts_of answers)) (grown_is σ h w r) (all_true σ w (inv σ h w r) m a current answers heard)
 
   pub implied : (m : ℕ) (a : Attempt) → w.trying m ≡ Some a → (answers : List Answer) → AreHeard σ.targets w.pool a answers → length (h ++ entries_of w.since) < 0x0ffffffe
       → (P : Laid → Type 0) → Imply σ.targets (facts_of answers) P → P (laid σ.targets (h ++ entries_of w.since))
@@ -75,6 +71,6 @@ module _ (σ : Setting) (h : History) (w : World) (r : Reached σ.targets h w) w
       read = λ e.
           implied m a current answers heard few (λ l. reply ≡ (step σ.targets l.tree a.who.request.op).1) settles
           ∙ ap (λ t. (step σ.targets t a.who.request.op).1) (σ.laws.beside_tree σ.targets (h ++ entries_of w.since))
-          ∙ ap (λ g. (step σ.targets (tree_of σ.targets g) a.who.request.op).1) (sym grown_is ∙ whole_is σ h w r sent known o);
+          ∙ ap (λ g. (step σ.targets (tree_of σ.targets g) a.who.request.op).1) (sym (grown_is σ h w r) ∙ whole_is σ h w r sent known o);
       kept = λ e. absurd (true≢false (sym read ∙ e));
     }

@@ -5,23 +5,22 @@ use Rattle.std.specs.List.{AllByRecursion}
 use Rattle.std.proofs.lemmas.Bool.Decides.{eqb_tells}
 use Rattle.tree_model.specs.Participants.{home_of}
 use Rattle.tree_model.specs.declared.op.Request.{Request}
-use Rattle.update_protocol.specs.Epochs.{Reached, Redos}
+use Rattle.update_protocol.specs.Epochs.{Reached}
 use Rattle.update_protocol.specs.Lists.{IsIn, Rising}
 use Rattle.update_protocol.specs.Machine.{AreDistinct, IsListed, Listed, Lists, State, all_named, is_home, number, position_of}
 use Rattle.update_protocol.specs.Parts.{IsSent, entries_of}
 use Rattle.update_protocol.specs.Recovery.{Gathered, Redo}
 use Rattle.update_protocol.specs.Rows.{has, live, pending}
 use Rattle.update_protocol.specs.States.{Spoken, entries_at, entry_at, gathered_state, listed, listed_at, number_at, numbers_at, state_of, state_with}
-use Rattle.update_protocol.specs.World.{Accepted, Each, Full, History, Named, World, at, count_home, is_on, master, request_of}
+use Rattle.update_protocol.specs.World.{Accepted, Each, Full, History, World, at, count_home, is_on, master, request_of}
 use Rattle.update_protocol.proofs.Fitting.{all_entries, distinct_numbers, full_named}
 use Rattle.update_protocol.proofs.Naming.{Apart, in_numbers, number_in}
 use Rattle.update_protocol.proofs.Invariant.{Invariant}
-use Rattle.update_protocol.proofs.Redone.{gathered, mem_append, redone_all}
+use Rattle.update_protocol.proofs.Redone.{mem_append, redone_all}
 use Rattle.update_protocol.proofs.Saying.{SetsOfParts, entry_here, far, homes, inv}
 use Rattle.update_protocol.proofs.Seating.{mem_all}
 use Rattle.update_protocol.proofs.Setting.{Setting}
 use Rattle.update_protocol.proofs.Showing.{has_mem, live_in, log_fits, mem_has, pends_behind, redo_old}
-use Rattle.update_protocol.proofs.Stories.{all_redos}
 
 -- ---- positions
 
@@ -126,20 +125,17 @@ module _ (σ : Setting) (h : History) (w : World) (r : Reached σ.targets h w) (
       executed n m = ⊎_elim (λ here. inl (mem_has n (w.disk t) here)) (λ pends. inr (number_in w.since far_apart (pending w t) n pends))
           (mem_append (w.disk t) (pending w t) n (subst (λ l. IsIn n l) (pends_behind σ w i t) m))
 
-  -- in a recovery that redid that much
-  module _ (kept : ℕ → Bool) (named : Each (λ n a. (kept n ≡ true → Named w.disk n) × (Named w.disk n → kept n ≡ true)) w.since) (redos : List (ℕ × List ℕ)) (disks : ℕ → List ℕ) (redone : Redos w w.disk redos disks) where
-    all : Gathered σ.targets w.base w.since disks w.kept_mark w.kept_gone kept
-    all = all_redos σ w kept redos w.disk disks (gathered σ w i kept named) redone
-
-    pub redone_log : Rising indexes → length indexes ≡ length (live (disks t) (w.kept_gone t)) → Lists (gathered_state σ.targets o w.base w.since disks) t (listed o.epoch w.since indexes (live (disks t) (w.kept_gone t)))
+  -- in a recovery, where nothing is pending
+  module _ (disks : ℕ → List ℕ) (mark : ℕ → ℕ) (gone : ℕ → List ℕ) (kept : ℕ → Bool) (g : Gathered σ.targets w.base w.since disks mark gone kept) where
+    pub redone_log : Rising indexes → length indexes ≡ length (live (disks t) (gone t)) → Lists (gathered_state σ.targets o w.base w.since disks) t (listed o.epoch w.since indexes (live (disks t) (gone t)))
     redone_log rises many =
-        let fits = redo_old σ w.base w.since disks w.kept_mark w.kept_gone kept all t in
-        lists σ.targets o sets w.base w.since far_apart at_homes i.numbered.position disks (λ s. []) t indexes (live (disks t) (w.kept_gone t)) fits.distinct
-        (λ n m. let k = fits.known n m in (k.0, k.1, inl (mem_has n (disks t) (live_in (disks t) (w.kept_gone t) n m)))) (λ n m. absurd m) fits.each rises many
+        let fits = redo_old σ w.base w.since disks mark gone kept g t in
+        lists σ.targets o sets w.base w.since far_apart at_homes i.numbered.position disks (λ s. []) t indexes (live (disks t) (gone t)) fits.distinct
+        (λ n m. let k = fits.known n m in (k.0, k.1, inl (mem_has n (disks t) (live_in (disks t) (gone t) n m)))) (λ n m. absurd m) fits.each rises many
 
     -- a log that was emptied lists nothing
-    pub emptied_log : ((s : ℕ) → Redo w.since disks w.kept_mark w.kept_gone s []) → Lists (gathered_state σ.targets o w.base w.since disks) t []
+    pub emptied_log : ((s : ℕ) → Redo w.since disks mark gone s []) → Lists (gathered_state σ.targets o w.base w.since disks) t []
     emptied_log nothing_left =
         lists σ.targets o sets w.base w.since far_apart at_homes i.numbered.position disks (λ s. []) t [] [] tt (λ n m. absurd m) (λ n m. absurd m)
-        (λ n m part. let k = all.known t n m in
-        absurd (part (λ s on. subst (λ xs. IsIn n xs) (append-nil (disks s)) (redone_all σ w.base w.since disks w.kept_mark w.kept_gone kept all s [] (nothing_left s) n k.0 ((all.named n k.0).1 (t, m)) on)))) tt refl
+        (λ n m part. let k = g.known t n m in
+        absurd (part (λ s on. subst (λ xs. IsIn n xs) (append-nil (disks s)) (redone_all σ w.base w.since disks mark gone kept g s [] (nothing_left s) n k.0 ((g.named n k.0).1 (t, m)) on)))) tt refl

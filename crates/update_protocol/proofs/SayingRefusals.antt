@@ -23,8 +23,8 @@ use Rattle.update_protocol.specs.World.{Accepted, Answer, Attempt, History, Sync
 use Rattle.update_protocol.proofs.Causes.{cause}
 use Rattle.update_protocol.proofs.Naming.{Apart, number_in}
 use Rattle.update_protocol.proofs.Saying.{SetsOfParts, entry_here, far, inv, pends_known}
-use Rattle.update_protocol.proofs.SayingAccept.{history_is, whole_is}
-use Rattle.update_protocol.proofs.SayingAnswers.{grown_is, implied}
+use Rattle.update_protocol.proofs.SayingAccept.{grown_is, history_is, whole_is}
+use Rattle.update_protocol.proofs.SayingAnswers.{implied}
 use Rattle.update_protocol.proofs.Setting.{Setting}
 
 -- the entries before one, as a history

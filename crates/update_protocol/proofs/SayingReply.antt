@@ -7,7 +7,7 @@ use Rattle.tree_model.specs.History.{Item}
 use Rattle.tree_model.specs.Participants.{home_of}
 use Rattle.tree_model.specs.declared.op.Request.{Request}
 use Rattle.tree_model.specs.declared.reply.Reply.{Reply}
-use Rattle.tree_shares.specs.Seats.{HasSeat, IsLast, IsSeat, Ordered, SameSeat, Seats, Share, SitsAt, seated, seats_from, share_of}
+use Rattle.tree_shares.specs.Seats.{HasSeat, IsLast, IsSeat, SameSeat, Seats, Share, SitsAt, seated, seats_from, share_of}
 use Rattle.tree_shares.specs.ShareLaws.{SeatsAreLast}
 use Rattle.tree_shares.specs.Shares.{is_at}
 use Rattle.update_protocol.specs.Epochs.{Reached}
@@ -18,11 +18,11 @@ use Rattle.update_protocol.specs.Parts.{IsSent, entries_of}
 use Rattle.update_protocol.specs.Rows.{has}
 use Rattle.update_protocol.specs.Seats.{is_read}
 use Rattle.update_protocol.specs.States.{Spoken, state_of}
-use Rattle.update_protocol.specs.World.{Accepted, History, World, at, entry, made, master, request_of}
+use Rattle.update_protocol.specs.World.{Accepted, History, World, after_items, at, entry, made, master, request_of}
 use Rattle.update_protocol.proofs.Fitting.{as_places}
 use Rattle.update_protocol.proofs.Legal.{after_joined}
 use Rattle.update_protocol.proofs.Saying.{homes, inv}
-use Rattle.update_protocol.proofs.SayingAccept.{history_is, whole_is}
+use Rattle.update_protocol.proofs.SayingAccept.{grown_is, history_is}
 use Rattle.update_protocol.proofs.Seating.{ordered_after}
 use Rattle.update_protocol.proofs.Setting.{Setting}
 use Rattle.update_protocol.proofs.Shares.{placed, places_from}
@@ -82,12 +82,9 @@ request_is : (sent : ℕ → Request) (h : History) → IsSent sent h → (i : I
 request_is sent [] known i m = absurd m
 request_is sent (j ∷ h) known i m = ⊎_elim (λ e. subst (λ (k : Item). k.request ≡ sent k.request.number) (sym e) known.0) (λ m. request_is sent h known.1 i m) m
 
-module _ (σ : Setting) (lasts : SeatsAreLast) (h : History) (w : World) (r : Reached σ.targets h w) (sent : ℕ → Request) (known : IsSent sent (h ++ entries_of w.since)) (o : Spoken) (t : ℕ) (up : w.up t ≡ true) where
-  abbrev now : State
-  now = state_of σ.targets o w
-
-  -- a home that serves has executed all of its own, so its seats are those of the whole history
-  own_seats : (has_now σ.targets w t).seats ≡ seats_from σ.targets t empty (history_of now)
+module _ (σ : Setting) (lasts : SeatsAreLast) (h : History) (w : World) (r : Reached σ.targets h w) (t : ℕ) (up : w.up t ≡ true) where
+  -- a home that is up has executed all of its own, so its seats are those of the whole history
+  own_seats : (has_now σ.targets w t).seats ≡ seats_from σ.targets t empty (after_items w.base w.since)
   own_seats =
       let i = inv σ h w r in
       seats_made σ.targets t w.since (w.done t) (share_of σ.targets w.base t)
@@ -96,12 +93,22 @@ module _ (σ : Setting) (lasts : SeatsAreLast) (h : History) (w : World) (r : Re
       (λ j l q e. other_seat σ.targets t (at w.since j) q (homes σ.targets w.base w.since i.follows j l)
       (λ home. has_not (0 + j) (w.done t) e (subst (λ n. IsIn n (w.done t)) (sym (zero-add j)) (subst (λ m. IsIn j (w.done m)) home (i.executed.home_done j l (subst (λ m. w.up m ≡ true) (sym home) up))))))
       ∙ sym (seats_join σ.targets t empty w.base (entries_of w.since))
-      ∙ ap (seats_from σ.targets t empty) (sym (after_joined w.base w.since) ∙ whole_is σ h w r sent known o)
+      ∙ ap (seats_from σ.targets t empty) (sym (after_joined w.base w.since))
+
+  -- and each is the last of its client there
+  pub seat_is_last : (client : ℕ) → IsLast σ.targets t client (h ++ entries_of w.since) (get (has_now σ.targets w t).seats client)
+  seat_is_last client =
+      subst (λ g. IsLast σ.targets t client g (get (has_now σ.targets w t).seats client)) (grown_is σ h w r)
+      (subst (IsLast σ.targets t client (after_items w.base w.since)) (sym (ap (λ s. get s client) own_seats))
+      (lasts σ.targets t client (after_items w.base w.since) (ordered_after σ.targets w.base w.since (inv σ h w r).grounded.ordered (inv σ h w r).follows)))
+
+module _ (σ : Setting) (lasts : SeatsAreLast) (h : History) (w : World) (r : Reached σ.targets h w) (sent : ℕ → Request) (known : IsSent sent (h ++ entries_of w.since)) (o : Spoken) (t : ℕ) (up : w.up t ≡ true) where
+  abbrev now : State
+  now = state_of σ.targets o w
 
   module _ (q : Request) (home : home_of σ.targets q.op ≡ Some t) (last : ℕ) (reply : Reply) (seat : get (has_now σ.targets w t).seats q.client ≡ Some (last, reply)) where
     is_last : IsLast σ.targets t q.client (history_of now) (Some (last, reply))
-    is_last = subst (IsLast σ.targets t q.client (history_of now)) (sym (ap (λ s. get s q.client) own_seats) ∙ seat)
-        (lasts σ.targets t q.client (history_of now) (subst (λ g. Ordered σ.targets g) (whole_is σ h w r sent known o) (ordered_after σ.targets w.base w.since (inv σ h w r).grounded.ordered (inv σ h w r).follows)))
+    is_last = subst (λ g. IsLast σ.targets t q.client g (Some (last, reply))) (history_is σ h w r sent known o) (subst (IsLast σ.targets t q.client (h ++ entries_of w.since)) seat (seat_is_last σ lasts h w r t up q.client))
 
     seated_item : (i : Item) × IsIn i (history_of now) × IsSeat σ.targets t q.client (last, reply) i
     seated_item = seat_item σ.targets t q.client (last, reply) (history_of now) is_last.1

@@ -132,7 +132,7 @@ module _ (σ : Setting) (w : World) (i : Invariant σ.targets w) (t : ℕ) where
       (λ (le : (at w.since n).batch ≤ w.kept_mark (master (at w.since n))). i.durable.under n d.0 le)
       (λ (own : (master (at w.since n) ≡ t) × ((at w.since n).batch ≤ w.torn_mark t)). i.tearing.torn_under n d.0 (subst (λ m. (at w.since n).batch ≤ w.torn_mark m) (sym own.0) own.1)) d.1
 
-  kept_full : (n : ℕ) → IsIn n (w.kept_gone t) → Full w.disk n (at w.since n)
+  pub kept_full : (n : ℕ) → IsIn n (w.kept_gone t) → Full w.disk n (at w.since n)
   kept_full n h = let d = i.durable.cancelled t n h in i.durable.under n d.0 d.1
 
   pub old_fits : FitsTarget w.since w.disk t (length (w.disk t)) (live (w.disk t) (w.kept_gone t))

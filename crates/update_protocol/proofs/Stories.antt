@@ -14,17 +14,17 @@ use Rattle.tree_shares.specs.Seats.{share_of}
 use Rattle.update_protocol.specs.World.{Accepted, Follows, History, World, after_items, at, is_on, made}
 
 module _ (σ : Setting) where
-  pub all_redos : (w : World) (kept : ℕ → Bool) (rs : List (ℕ × List ℕ)) (disk last : ℕ → List ℕ) → Gathered σ.targets w.base w.since disk w.kept_mark w.kept_gone kept
+  all_redos : (w : World) (kept : ℕ → Bool) (rs : List (ℕ × List ℕ)) (disk last : ℕ → List ℕ) → Gathered σ.targets w.base w.since disk w.kept_mark w.kept_gone kept
       → Redos w disk rs last → Gathered σ.targets w.base w.since last w.kept_mark w.kept_gone kept
   all_redos w kept [] disk last g r = subst (λ d. Gathered σ.targets w.base w.since d w.kept_mark w.kept_gone kept) (sym r) g
   all_redos w kept (q ∷ rs) disk last g r =
       all_redos w kept rs (put disk q.0 (disk q.0 ++ q.1)) last (redone_gathered σ w.base w.since disk w.kept_mark w.kept_gone kept g q.0 q.1 r.0) r.1
 
   module _ (base : History) (ground : Grounded σ.targets base) (e : Epoch σ.targets base) where
-    inv : Invariant σ.targets e.world
+    pub inv : Invariant σ.targets e.world
     inv = always σ e.events (fresh e.start base) e.world (begins σ e.start base ground) e.run
 
-    same : e.world.base ≡ base
+    pub same : e.world.base ≡ base
     same = base_kept σ e.events (fresh e.start base) e.world e.run
 
     last : Gathered σ.targets e.world.base e.world.since e.disks e.world.kept_mark e.world.kept_gone e.kept

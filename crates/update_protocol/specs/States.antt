@@ -2,7 +2,7 @@
 use Rattle.std.specs.Prelude.{Bool, List, [], false, length, map, suc, true, ℕ, ◌+◌, ◌<◌, ◌∷◌, ◌≡◌}
 use Rattle.tree_model.specs.declared.op.Request.{Request}
 use Rattle.update_protocol.specs.Lists.{IsIn, Rising}
-use Rattle.update_protocol.specs.Machine.{Entry, Listed, Standing, State}
+use Rattle.update_protocol.specs.Machine.{Entry, Line, Listed, Redone, Standing, State}
 use Rattle.update_protocol.specs.Rows.{has, pending}
 use Rattle.update_protocol.specs.World.{Accepted, History, World, at, entry, master, request_of}
 use Rattle.update_record.specs.Spelling.{targets_from}
@@ -61,6 +61,11 @@ abbrev pub listed : ℕ → List Accepted → List ℕ → List ℕ → List Lis
 listed epoch since [] ns = []
 listed epoch since (i ∷ is) [] = []
 listed epoch since (i ∷ is) (n ∷ ns) = listed_at epoch since i n ∷ listed epoch since is ns
+
+-- what each of these redos says
+abbrev pub redone_lines : List Accepted → List (ℕ × List ℕ) → List Line
+redone_lines since [] = []
+redone_lines since (r ∷ rs) = Redone r.0 (numbers_at since r.1) ∷ redone_lines since rs
 
 -- ascending, the numbers of the items that pass the test, and those of the others
 pub record IsSplit (since : List Accepted) (test : ℕ → Bool) (kept lost : List ℕ) : Type 0 where

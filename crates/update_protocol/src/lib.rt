@@ -19,21 +19,21 @@ ghost use Rattle.tree_model.specs.Striped.{on};
 ghost use Rattle.tree_model.specs.declared.errno.Errno.{Errno};
 ghost use Rattle.tree_model.specs.declared.op.Request.{Request};
 ghost use Rattle.tree_model.specs.declared.reply.Reply.{Reply};
-ghost use Rattle.update_protocol.specs.Epochs.{Epoch, Reached, Redos, Story, kept_of};
+ghost use Rattle.update_protocol.specs.Epochs.{Epoch, Reached, Story, kept_of};
 ghost use Rattle.update_protocol.specs.Events.{Accept, Adopt, AreHeard, Commit, Execute_comes, Give_up, May, Run, Send, Start, Stop, Sync_comes, Tear, fresh, happens, has_now};
 ghost use Rattle.op_laws.specs.Laws.{IsCount};
 ghost use Rattle.update_protocol.specs.Facts.{AreTrue, Fits, Imply};
 ghost use Rattle.update_protocol.specs.Laws.{Laws};
 ghost use Rattle.update_protocol.specs.Lists.{IsIn, Rising, put};
-ghost use Rattle.update_protocol.specs.Machine.{Accept as Accept_line, Done, Down, End_clean, Full, Line, Log, Needs, Opened, Recovered, Recovering, Redone, Replies, Says, Serving, Shared, Shows, Stable, Stale, Stopped, Up, room_of, stands_after, stays_smooth};
+ghost use Rattle.update_protocol.specs.Machine.{Accept as Accept_line, Done, Down, End_clean, Full, Line, Log, Needs, Opened, Recovered, Recovering, Redone, Replies, Says, SaysAll, Serving, Shared, Shows, Stable, Stale, Stopped, Up, room_of, stands_after, stays_smooth};
 ghost use Rattle.update_protocol.specs.Near.{Cause};
-ghost use Rattle.update_protocol.specs.States.{IsSplit, Spoken, gathered_state, listed, number_at, numbers_at, state_of};
+ghost use Rattle.update_protocol.specs.States.{IsSplit, Spoken, gathered_state, listed, number_at, numbers_at, redone_lines, state_of};
 ghost use Rattle.update_protocol.specs.Parts.{IsSent, all_of, entries_of, numbers_of, passing};
 ghost use Rattle.update_protocol.specs.Progress.{Asking, Note, Turn, Turns, idle};
 ghost use Rattle.update_protocol.specs.Recovery.{Gathered, Redo, before_item, kept_items};
 ghost use Rattle.update_protocol.specs.Rows.{AreOfCut, FitsLog, FitsTarget, live, pending};
 ghost use Rattle.update_protocol.specs.Seats.{Newest, is_read};
-ghost use Rattle.tree_shares.specs.Seats.{share_of};
+ghost use Rattle.tree_shares.specs.Seats.{IsLast, share_of};
 ghost use Rattle.update_protocol.specs.World.{Accepted, Answer, Attempt, Covers, Each, Follows, History, Named, Sync, Synced, World, after_items, at, count_home, facts_of, is_on, made, master, request_of, saw_of, wrote_of};
 ghost use Rattle.update_record.specs.Spelling.{targets_from};
 
@@ -91,15 +91,19 @@ pub fn history_is_legal()
     operations_have_laws();
 }
 
-/// What is accepted is new: no item has its number, and those of its client and home have smaller ones, over all epochs.
+/// What is accepted is new: no item has its number, and those of its client and home have smaller ones, over all epochs. A
+/// seat of a home that is up has the last number of its client there and its reply, over all epochs.
 pub fn what_is_accepted_is_new()
     ensures newest { (targets : ℕ) → IsCount targets → (h : History) (w : World) → Reached targets h w
         → (m : ℕ) (x : Accepted) → May targets w (Accept m x) → Newest targets (h ++ entries_of w.since) (request_of x) }
     ensures once { (targets : ℕ) → IsCount targets → (h : History) (w : World) → Reached targets h w
         → (m : ℕ) (x : Accepted) → May targets w (Accept m x) → (sent : ℕ → Request) → IsSent sent (h ++ entries_of w.since)
         → request_of x ≡ sent (request_of x).number → HasNumber (request_of x).number (h ++ entries_of w.since) → ⊥ }
+    ensures seats { (targets : ℕ) → IsCount targets → (h : History) (w : World) → Reached targets h w → (t : ℕ) → w.up t ≡ true → (client : ℕ)
+        → IsLast targets t client (h ++ entries_of w.since) (get (has_now targets w t).seats client) }
 {
     operations_have_laws();
+    seats_are_last();
 }
 
 /// What an attempt was told is true of the history as it is now, as long as the attempt is current: what follows over each
@@ -179,10 +183,15 @@ pub fn each_shared_line_has_its_cause()
     operations_have_laws();
 }
 
-/// A record is cancelled only where it is committed on each of its targets.
+/// A record is cancelled only where it is committed on each of its targets, whether in a target's memory, on its disk, or in
+/// the image that a failed commit may have left.
 pub fn a_cancelled_record_is_everywhere()
     ensures everywhere { (targets : ℕ) → IsCount targets → (h : History) (w : World) → Reached targets h w
         → (t n : ℕ) → IsIn n (w.gone t) → (s : ℕ) → is_on (at w.since n) s ≡ true → IsIn n (w.disk s) }
+    ensures on_disk { (targets : ℕ) → IsCount targets → (h : History) (w : World) → Reached targets h w
+        → (t n : ℕ) → IsIn n (w.kept_gone t) → (s : ℕ) → is_on (at w.since n) s ≡ true → IsIn n (w.disk s) }
+    ensures torn { (targets : ℕ) → IsCount targets → (h : History) (w : World) → Reached targets h w
+        → (t n : ℕ) → IsIn n (w.torn_gone t) → (s : ℕ) → is_on (at w.since n) s ≡ true → IsIn n (w.disk s) }
 {
     operations_have_laws();
 }
@@ -300,7 +309,6 @@ pub fn answers_say_rows()
 {
     operations_have_laws();
     seats_are_last();
-    targets_are_those_of_the_parts();
 }
 
 /// Why a request that came isn't served, and why a commit is shared for one, as lines: its home doesn't serve, or another
@@ -342,7 +350,8 @@ pub fn commands_say_rows()
 }
 
 /// What a recovery says in the plain machine, once what served is committed: what it redoes at a target, and what a
-/// target shows that stopped in it, before or after the redone records were committed there.
+/// target shows that stopped in it, before or after the redone records were committed there; what a log shows when a recovery
+/// stopped; and all that one says which nothing stops.
 pub fn recoveries_say_rows()
     ensures gathered { (targets : ℕ) → IsCount targets → (h : History) (w : World) → Reached targets h w → (o : Spoken) → ((t n : ℕ) → IsIn n (w.done t) → IsIn n (w.disk t)) → state_of targets o w ≡ gathered_state targets o w.base w.since w.disk }
     ensures stopped { (targets : ℕ) (o : Spoken) (base : History) (since : List Accepted) (disk : ℕ → List ℕ) (t : ℕ) (others : List Line) → Says (gathered_state targets o base since disk) (Stopped t) others
@@ -363,16 +372,18 @@ pub fn recoveries_say_rows()
     ensures renewed_image { (targets : ℕ) → IsCount targets → (h : History) → Story targets h → (e : Epoch targets h) → (sent : ℕ → Request) → IsSent sent (h ++ entries_of e.world.since) → (o : Spoken)
         → (t : ℕ) (others : List Line) → Says (gathered_state targets o h e.world.since e.disks) (Up t (o.start t + length (e.disks t)) []) others (gathered_state targets (record o { standing = put o.standing t Opened }) h e.world.since e.disks) }
     ensures log { (targets : ℕ) → IsCount targets → (h : History) (w : World) → Reached targets h w → (sent : ℕ → Request) → IsSent sent (h ++ entries_of w.since) → (o : Spoken)
-        → (kept : ℕ → Bool) → Each (λ n a. (kept n ≡ true → Named w.disk n) × (Named w.disk n → kept n ≡ true)) w.since → (redos : List (ℕ × List ℕ)) (disks : ℕ → List ℕ) → Redos w w.disk redos disks
-        → (t : ℕ) (indexes : List ℕ) → Rising indexes → length indexes ≡ length (live (disks t) (w.kept_gone t)) → (o.standing t ≡ Down → ⊥) → (others : List Line)
-        → Says (gathered_state targets o w.base w.since disks) (Log t (listed o.epoch w.since indexes (live (disks t) (w.kept_gone t)))) others (gathered_state targets o w.base w.since disks) }
+        → (disks : ℕ → List ℕ) (mark : ℕ → ℕ) (gone : ℕ → List ℕ) (kept : ℕ → Bool) → Gathered targets w.base w.since disks mark gone kept → (t : ℕ) (indexes : List ℕ) → Rising indexes → length indexes ≡ length (live (disks t) (gone t)) → (o.standing t ≡ Down → ⊥) → (others : List Line)
+        → Says (gathered_state targets o w.base w.since disks) (Log t (listed o.epoch w.since indexes (live (disks t) (gone t)))) others (gathered_state targets o w.base w.since disks) }
     ensures emptied_log { (targets : ℕ) → IsCount targets → (h : History) (w : World) → Reached targets h w → (sent : ℕ → Request) → IsSent sent (h ++ entries_of w.since) → (o : Spoken)
-        → (kept : ℕ → Bool) → Each (λ n a. (kept n ≡ true → Named w.disk n) × (Named w.disk n → kept n ≡ true)) w.since → (redos : List (ℕ × List ℕ)) (disks : ℕ → List ℕ) → Redos w w.disk redos disks
-        → ((s : ℕ) → Redo w.since disks w.kept_mark w.kept_gone s []) → (t : ℕ) → (o.standing t ≡ Down → ⊥) → (others : List Line)
+        → (disks : ℕ → List ℕ) (mark : ℕ → ℕ) (gone : ℕ → List ℕ) (kept : ℕ → Bool) → Gathered targets w.base w.since disks mark gone kept → ((s : ℕ) → Redo w.since disks mark gone s []) → (t : ℕ) → (o.standing t ≡ Down → ⊥) → (others : List Line)
         → Says (gathered_state targets o w.base w.since disks) (Log t []) others (gathered_state targets o w.base w.since disks) }
     ensures recovered { (targets : ℕ) → IsCount targets → (h : History) → Story targets h → (e : Epoch targets h) → (sent : ℕ → Request) → IsSent sent (h ++ entries_of e.world.since) → (o : Spoken)
         → (epoch : ℕ) → o.epoch < epoch → (o.smooth ≡ true → epoch ≡ suc o.epoch) → (kept lost : List ℕ) → IsSplit e.world.since e.kept kept lost → (s : Start) (others : List Line)
         → Says (gathered_state targets o h e.world.since e.disks) (Recovered epoch kept lost) others
+        (state_of targets (record { sent = o.sent; epoch = epoch; smooth = true; standing = λ t. Serving; start = λ t. o.start t + length (e.disks t) }) (fresh s (after_items h (kept_of targets h e)))) }
+    ensures whole { (targets : ℕ) → IsCount targets → (h : History) → Story targets h → (e : Epoch targets h) → (sent : ℕ → Request) → IsSent sent (h ++ entries_of e.world.since) → (o : Spoken)
+        → (epoch : ℕ) → o.epoch < epoch → (o.smooth ≡ true → epoch ≡ suc o.epoch) → (kept lost : List ℕ) → IsSplit e.world.since e.kept kept lost → (s : Start)
+        → SaysAll (gathered_state targets o h e.world.since e.world.disk) (redone_lines e.world.since e.redos ++ Recovered epoch kept lost ∷ [])
         (state_of targets (record { sent = o.sent; epoch = epoch; smooth = true; standing = λ t. Serving; start = λ t. o.start t + length (e.disks t) }) (fresh s (after_items h (kept_of targets h e)))) }
 {
     operations_have_laws();
@@ -416,6 +427,16 @@ pub fn a_refusal_can_wait_for_a_commit()
     ensures waited { (x : Accepted) × (x.reply ≡ Reply.Err Errno.EEXIST) × (is_on x 0 ≡ true) × (is_on x 1 ≡ false)
         × (w : World) × Reached 3 [] w × (is_on (at w.since 1) 0 ≡ false) × IsIn 1 (pending w 1) × (May 3 w (Accept 0 x) → ⊥)
         × (v : World) × Run 3 w (Send (Sync x.attempt 1 1) ∷ Commit 1 ∷ Sync_comes x.attempt 1 1 ∷ []) v × Reached 3 [] v × May 3 v (Accept 0 x) }
+{
+    operations_have_laws();
+    histories_keep_trees_sound();
+    shares_tell();
+}
+
+/// There is a run in which a read is answered: a name is looked up that isn't there.
+pub fn a_read_can_be_answered()
+    ensures answered { (w : World) × (a : Attempt) × (answers : List Answer) × Reached 3 [] w × (w.trying 0 ≡ Some a) × (is_read a.who.request.op ≡ true) × AreHeard 3 w.pool a answers
+        × Imply 3 (facts_of answers) (λ l. Reply.Err Errno.ENOENT ≡ (step 3 l.tree a.who.request.op).1) }
 {
     operations_have_laws();
     histories_keep_trees_sound();

@@ -39,6 +39,7 @@ pub mod Fitting
 pub mod SayingUp
 pub mod SayingLog
 pub mod SayingReply
+pub mod SayingCommits
 pub mod SayingAnswers
 pub mod SayingRefusals
 pub mod SayingRecovery

@@ -1,17 +1,20 @@
 -- What a recovery says that nothing stops: what it redoes at one target after another, and its end.
-use Rattle.std.proofs.Common.{ℕ, Bool, ◌++◌, List, [], ◌∷◌, subst}
+use Rattle.std.proofs.Common.{◌≡◌, ℕ, Bool, true, ◌++◌, List, [], ◌∷◌, refl, subst, sym}
 use Rattle.tree_model.specs.History.{IsLegal}
 use Rattle.tree_model.specs.declared.op.Request.{Request}
-use Rattle.update_protocol.specs.Epochs.{Epoch, Redos, Story}
-use Rattle.update_protocol.specs.Lists.{put}
+use Rattle.update_protocol.specs.Epochs.{Epoch, Reached, Redos, Story}
+use Rattle.update_protocol.specs.Events.{Forget, fresh, happens}
+use Rattle.update_protocol.specs.Lists.{IsIn, put}
 use Rattle.update_protocol.specs.Machine.{Line, SaysAll, State}
 use Rattle.update_protocol.specs.Parts.{IsSent, entries_of}
 use Rattle.update_protocol.specs.Recovery.{Gathered}
-use Rattle.update_protocol.specs.States.{Spoken, gathered_state, redone_lines}
+use Rattle.update_protocol.specs.States.{Spoken, committed_all, gathered_state, redone_lines, stable_lines, state_of}
 use Rattle.update_protocol.specs.World.{Follows, History, World}
 use Rattle.update_protocol.proofs.Redone.{gathered, redone_gathered}
 use Rattle.update_protocol.proofs.Saying.{SetsOfParts}
-use Rattle.update_protocol.proofs.SayingRecovery.{redone_says}
+use Rattle.update_protocol.proofs.SayingRecovery.{gathered_is, redone_says}
+use Rattle.update_protocol.proofs.Lives.{run_on}
+use Rattle.update_protocol.proofs.SayingCommits.{commits_say}
 use Rattle.update_protocol.proofs.Setting.{Setting}
 use Rattle.update_protocol.proofs.Stories.{inv, same, story_grounded, whole_history}
 use Rattle.update_protocol.proofs.Whole.{run_legal}
@@ -33,3 +36,14 @@ pub whole_says : (σ : Setting) (sets : SetsOfParts) (h : History) (story : Stor
 whole_says σ sets h story e sent known o ends next says =
     redos_say σ sets h e.world (whole_history σ h (story_grounded σ h story) e) (run_legal σ h story e.start e.events e.world e.run sent known) e.kept o e.disks ends next says e.redos e.world.disk
     (subst (λ b. Gathered σ.targets b e.world.since e.world.disk e.world.kept_mark e.world.kept_gone e.kept) (same σ h (story_grounded σ h story) e) (gathered σ e.world (inv σ h (story_grounded σ h story) e) e.kept e.named)) e.redone
+
+-- with what targets commit as it begins
+pub command_says : (σ : Setting) (sets : SetsOfParts) (h : History) (story : Story σ.targets h) (e : Epoch σ.targets h) (sent : ℕ → Request) → IsSent sent (h ++ entries_of e.world.since) → (o : Spoken)
+    → (w : World) → Reached σ.targets h w → IsSent sent (h ++ entries_of w.since) → (ts : List ℕ) → ((t : ℕ) → IsIn t ts → w.up t ≡ true) → e.world ≡ committed_all (happens w Forget) ts
+    → (ends : List Line) (next : State) → SaysAll (gathered_state σ.targets o h e.world.since e.world.disk) ends next → SaysAll (state_of σ.targets o w) (stable_lines (happens w Forget) ts ++ ends) next
+command_says σ sets h story e sent known o w r known_then ts ups is ends next says =
+    let begun : Reached σ.targets h (happens w Forget) = record { story = r.story; start = r.start; events = r.events ++ Forget ∷ []; run = run_on σ.targets r.events (Forget ∷ []) (fresh r.start h) w (happens w Forget) r.run (tt, refl) } in
+    let gathered_now : SaysAll (state_of σ.targets o e.world) ends next =
+    subst (λ s. SaysAll s ends next) (sym (gathered_is σ h e.world (record { story = story; start = e.start; events = e.events; run = e.run }) o e.committed))
+    (subst (λ b. SaysAll (gathered_state σ.targets o b e.world.since e.world.disk) ends next) (sym (same σ h (story_grounded σ h story) e)) says) in
+    commits_say σ h sent o ends next ts (happens w Forget) begun known_then ups (subst (λ v. SaysAll (state_of σ.targets o v) ends next) is gathered_now)

@@ -1,8 +1,9 @@
 -- The state of the plain machine as a function of the world, and of what the commands and lines alone say.
 use Rattle.std.specs.Prelude.{Bool, List, [], false, length, map, suc, true, ℕ, ◌+◌, ◌<◌, ◌∷◌, ◌≡◌}
 use Rattle.tree_model.specs.declared.op.Request.{Request}
+use Rattle.update_protocol.specs.Events.{Commit, happens}
 use Rattle.update_protocol.specs.Lists.{IsIn, Rising}
-use Rattle.update_protocol.specs.Machine.{Entry, Line, Listed, Redone, Standing, State}
+use Rattle.update_protocol.specs.Machine.{Entry, Line, Listed, Redone, Stable, Standing, State}
 use Rattle.update_protocol.specs.Rows.{has, pending}
 use Rattle.update_protocol.specs.World.{Accepted, History, World, at, entry, master, request_of}
 use Rattle.update_record.specs.Spelling.{targets_from}
@@ -61,6 +62,15 @@ abbrev pub listed : ℕ → List Accepted → List ℕ → List ℕ → List Lis
 listed epoch since [] ns = []
 listed epoch since (i ∷ is) [] = []
 listed epoch since (i ∷ is) (n ∷ ns) = listed_at epoch since i n ∷ listed epoch since is ns
+
+-- these targets commit, one after another, and what each of them says
+abbrev pub committed_all : World → List ℕ → World
+committed_all w [] = w
+committed_all w (t ∷ ts) = committed_all (happens w (Commit t)) ts
+
+abbrev pub stable_lines : World → List ℕ → List Line
+stable_lines w [] = []
+stable_lines w (t ∷ ts) = Stable t (numbers_at w.since (pending w t)) ∷ stable_lines (happens w (Commit t)) ts
 
 -- what each of these redos says
 abbrev pub redone_lines : List Accepted → List (ℕ × List ℕ) → List Line

@@ -20,14 +20,14 @@ ghost use Rattle.tree_model.specs.declared.errno.Errno.{Errno};
 ghost use Rattle.tree_model.specs.declared.op.Request.{Request};
 ghost use Rattle.tree_model.specs.declared.reply.Reply.{Reply};
 ghost use Rattle.update_protocol.specs.Epochs.{Epoch, Reached, Story, kept_of};
-ghost use Rattle.update_protocol.specs.Events.{Accept, Adopt, AreHeard, Commit, Execute_comes, Give_up, May, Run, Send, Start, Stop, Sync_comes, Tear, fresh, happens, has_now};
+ghost use Rattle.update_protocol.specs.Events.{Accept, Adopt, AreHeard, Commit, Execute_comes, Forget, Give_up, May, Run, Send, Start, Stop, Sync_comes, Tear, fresh, happens, has_now};
 ghost use Rattle.op_laws.specs.Laws.{IsCount};
 ghost use Rattle.update_protocol.specs.Facts.{AreTrue, Fits, Imply};
 ghost use Rattle.update_protocol.specs.Laws.{Laws};
 ghost use Rattle.update_protocol.specs.Lists.{IsIn, Rising, put};
-ghost use Rattle.update_protocol.specs.Machine.{Accept as Accept_line, Done, Down, End_clean, Full, Line, Log, Needs, Opened, Recovered, Recovering, Redone, Replies, Says, SaysAll, Serving, Shared, Shows, Stable, Stale, Stopped, Up, room_of, stands_after, stays_smooth};
+ghost use Rattle.update_protocol.specs.Machine.{Accept as Accept_line, Done, Down, End_clean, Full, Line, Log, Needs, Opened, Recovered, Recovering, Redone, Replies, Says, SaysAll, Serving, Shared, Shows, Stable, Stale, State, Stopped, Up, room_of, stands_after, stays_smooth};
 ghost use Rattle.update_protocol.specs.Near.{Cause};
-ghost use Rattle.update_protocol.specs.States.{IsSplit, Spoken, gathered_state, listed, number_at, numbers_at, redone_lines, state_of};
+ghost use Rattle.update_protocol.specs.States.{IsSplit, Spoken, committed_all, gathered_state, listed, number_at, numbers_at, redone_lines, stable_lines, state_of};
 ghost use Rattle.update_protocol.specs.Parts.{IsSent, all_of, entries_of, numbers_of, passing};
 ghost use Rattle.update_protocol.specs.Progress.{Asking, Note, Turn, Turns, idle};
 ghost use Rattle.update_protocol.specs.Recovery.{Gathered, Redo, before_item, kept_items};
@@ -334,24 +334,36 @@ pub fn refusals_say_rows()
     targets_are_those_of_the_parts();
 }
 
-/// What commands show between two recoveries: the tree of all that was accepted where every target serves, the records of a
-/// log, and the end.
+/// What commands show between two recoveries: the tree of all that was accepted, where every target serves, and the records
+/// of a log.
 pub fn commands_say_rows()
     ensures tree { (targets : ℕ) → IsCount targets → (h : History) (w : World) → Reached targets h w → (sent : ℕ → Request) → IsSent sent (h ++ entries_of w.since) → (o : Spoken)
         → ((t : ℕ) → t < targets → o.standing t ≡ Serving) → (others : List Line) → Says (state_of targets o w) (Shows (tree_of targets (h ++ entries_of w.since))) others (state_of targets o w) }
     ensures log { (targets : ℕ) → IsCount targets → (h : History) (w : World) → Reached targets h w → (sent : ℕ → Request) → IsSent sent (h ++ entries_of w.since) → (o : Spoken)
         → (t : ℕ) (indexes : List ℕ) → Rising indexes → length indexes ≡ length (live (w.done t) (w.gone t)) → (o.standing t ≡ Down → ⊥) → (others : List Line)
         → Says (state_of targets o w) (Log t (listed o.epoch w.since indexes (live (w.done t) (w.gone t)))) others (state_of targets o w) }
-    ensures ended { (targets : ℕ) → IsCount targets → (h : History) (w : World) → Reached targets h w → (sent : ℕ → Request) → IsSent sent (h ++ entries_of w.since) → (o : Spoken)
-        → ((t : ℕ) → t < targets → o.standing t ≡ Serving) → (others : List Line) → Says (state_of targets o w) End_clean others (state_of targets o w) }
 {
     operations_have_laws();
     targets_are_those_of_the_parts();
 }
 
+/// What targets say that commit one after another, before whatever is said then: as a recovery begins, and at the end, which
+/// is clean. Then the disk of each of them that nothing holds has its share of all that was accepted, with its seats.
+pub fn commits_say_rows()
+    ensures reached { (targets : ℕ) → IsCount targets → (h : History) (w : World) → Reached targets h w → (ts : List ℕ) → ((t : ℕ) → IsIn t ts → w.up t ≡ true) → Reached targets h (committed_all w ts) }
+    ensures said { (targets : ℕ) → IsCount targets → (h : History) (w : World) → Reached targets h w → (sent : ℕ → Request) → IsSent sent (h ++ entries_of w.since) → (o : Spoken) → (ts : List ℕ) → ((t : ℕ) → IsIn t ts → w.up t ≡ true)
+        → (ends : List Line) (next : State) → SaysAll (state_of targets o (committed_all w ts)) ends next → SaysAll (state_of targets o w) (stable_lines w ts ++ ends) next }
+    ensures ended { (targets : ℕ) → IsCount targets → (h : History) (w : World) → Reached targets h w → (sent : ℕ → Request) → IsSent sent (h ++ entries_of w.since) → (o : Spoken) → (ts : List ℕ) → ((t : ℕ) → IsIn t ts → w.up t ≡ true)
+        → ((t : ℕ) → t < targets → o.standing t ≡ Serving) → SaysAll (state_of targets o w) (stable_lines w ts ++ End_clean ∷ []) (state_of targets o (committed_all w ts)) }
+    ensures disks { (targets : ℕ) → IsCount targets → (h : History) (w : World) → Reached targets h w → (ts : List ℕ) → ((t : ℕ) → IsIn t ts → w.up t ≡ true)
+        → (t : ℕ) → t < targets → IsIn t ts → w.holder t ≡ None → made targets w.since t ((committed_all w ts).disk t) (share_of targets h t) ≡ share_of targets (h ++ entries_of w.since) t }
+{
+    operations_have_laws();
+}
+
 /// What a recovery says in the plain machine, once what served is committed: what it redoes at a target, and what a
 /// target shows that stopped in it, before or after the redone records were committed there; what a log shows when a recovery
-/// stopped; and all that one says which nothing stops.
+/// stopped; and all that one says which nothing stops, from what is redone on, and from its first commit on.
 pub fn recoveries_say_rows()
     ensures gathered { (targets : ℕ) → IsCount targets → (h : History) (w : World) → Reached targets h w → (o : Spoken) → ((t n : ℕ) → IsIn n (w.done t) → IsIn n (w.disk t)) → state_of targets o w ≡ gathered_state targets o w.base w.since w.disk }
     ensures stopped { (targets : ℕ) (o : Spoken) (base : History) (since : List Accepted) (disk : ℕ → List ℕ) (t : ℕ) (others : List Line) → Says (gathered_state targets o base since disk) (Stopped t) others
@@ -384,6 +396,11 @@ pub fn recoveries_say_rows()
     ensures whole { (targets : ℕ) → IsCount targets → (h : History) → Story targets h → (e : Epoch targets h) → (sent : ℕ → Request) → IsSent sent (h ++ entries_of e.world.since) → (o : Spoken)
         → (epoch : ℕ) → o.epoch < epoch → (o.smooth ≡ true → epoch ≡ suc o.epoch) → (kept lost : List ℕ) → IsSplit e.world.since e.kept kept lost → (s : Start)
         → SaysAll (gathered_state targets o h e.world.since e.world.disk) (redone_lines e.world.since e.redos ++ Recovered epoch kept lost ∷ [])
+        (state_of targets (record { sent = o.sent; epoch = epoch; smooth = true; standing = λ t. Serving; start = λ t. o.start t + length (e.disks t) }) (fresh s (after_items h (kept_of targets h e)))) }
+    ensures command { (targets : ℕ) → IsCount targets → (h : History) → Story targets h → (e : Epoch targets h) → (sent : ℕ → Request) → IsSent sent (h ++ entries_of e.world.since) → (o : Spoken)
+        → (epoch : ℕ) → o.epoch < epoch → (o.smooth ≡ true → epoch ≡ suc o.epoch) → (kept lost : List ℕ) → IsSplit e.world.since e.kept kept lost → (s : Start)
+        → (w : World) → Reached targets h w → IsSent sent (h ++ entries_of w.since) → (ts : List ℕ) → ((t : ℕ) → IsIn t ts → w.up t ≡ true) → e.world ≡ committed_all (happens w Forget) ts
+        → SaysAll (state_of targets o w) (stable_lines (happens w Forget) ts ++ (redone_lines e.world.since e.redos ++ Recovered epoch kept lost ∷ []))
         (state_of targets (record { sent = o.sent; epoch = epoch; smooth = true; standing = λ t. Serving; start = λ t. o.start t + length (e.disks t) }) (fresh s (after_items h (kept_of targets h e)))) }
 {
     operations_have_laws();

@@ -1,8 +1,8 @@
--- Which lines a command may have, by the state before it.
-use Rattle.std.specs.Prelude.{List, [], ℕ, suc, ◌++◌, ◌<◌, ◌≤◌, ◌∷◌, ◌≡◌, ◌⊎◌}
+-- Which lines a command may have, by the state before it, and whole runs of the plain machine.
+use Rattle.std.specs.Prelude.{List, [], true, ℕ, suc, ◌++◌, ◌<◌, ◌≤◌, ◌∷◌, ◌≡◌, ◌⊎◌}
 use Rattle.tree_model.specs.declared.op.Request.{Request}
 use Rattle.tree_model.specs.Tree.{Tree}
-use Rattle.update_protocol.specs.Machine.{State, Standing, Serving, Opened, Down, Line, Accept, Replies, Done, Busy, Stale, Full, Recovering, Ignored, Undelivered, Unsettled, Shared, Stable, Stopped, Up, Stands, Redone, Missing, Recovered, Shows, Tree_stands, Tree_busy, Log, End_clean, End_target, End_request, Listed}
+use Rattle.update_protocol.specs.Machine.{SaysAll, State, Standing, Serving, Opened, Down, Line, Accept, Replies, Done, Busy, Stale, Full, Recovering, Ignored, Undelivered, Unsettled, Shared, Stable, Stopped, Up, Stands, Redone, Missing, Recovered, Shows, Tree_stands, Tree_busy, Log, End_clean, End_target, End_request, Listed}
 
 pub data Command : Type 0 where
   Cluster : (targets : ℕ) → Command
@@ -150,3 +150,43 @@ IsGroup s Tree_shown ls = TreeLines s.standing s.targets ls
 IsGroup s (Log_shown target) ls = LogLines (s.standing target) target ls
 IsGroup s Messages_shown ls = AreMessages 0 ls
 IsGroup s End ls = EndLines s.standing s.targets ls
+
+-- RUNS
+
+-- a cluster is made with its targets serving
+abbrev pub made_with : ℕ → State
+made_with targets = record {
+  targets = targets;
+  sent = [];
+  epoch = 1;
+  smooth = true;
+  before = [];
+  since = [];
+  standing = λ t. Serving;
+  pend = λ t. [];
+  last = λ t. 0;
+}
+
+-- what a command does by itself, before its lines
+abbrev pub begun : State → Command → State
+begun s (Cluster targets) = made_with targets
+begun s (Send request) = record s { sent = s.sent ++ request ∷ [] }
+begun s (Again number) = s
+begun s (Deliver message) = s
+begun s (Drop message) = s
+begun s Settle = s
+begun s Resend = s
+begun s (Fuse target after choice) = s
+begun s (Commit target) = s
+begun s (Crash target) = s
+begun s (Restart target) = s
+begun s Recover = s
+begun s Tree_shown = s
+begun s (Log_shown target) = s
+begun s Messages_shown = s
+begun s End = s
+
+-- one command after another, each with the lines that come of it
+abbrev pub IsRun : State → List (Command × List Line) → State → Type 0
+IsRun s [] next = next ≡ s
+IsRun s (g ∷ more) next = IsGroup (begun s g.0) g.0 g.1 × (mid : State) × SaysAll (begun s g.0) g.1 mid × IsRun mid more next

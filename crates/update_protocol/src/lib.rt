@@ -23,6 +23,7 @@ ghost use Rattle.update_protocol.specs.Epochs.{Epoch, Reached, Story, kept_of};
 ghost use Rattle.update_protocol.specs.Events.{Accept, Adopt, AreHeard, Commit, Execute_comes, Forget, Give_up, May, Run, Send, Start, Stop, Sync_comes, Tear, fresh, happens, has_now};
 ghost use Rattle.op_laws.specs.Laws.{IsCount};
 ghost use Rattle.update_protocol.specs.Facts.{AreTrue, Fits, Imply};
+ghost use Rattle.update_protocol.specs.Groups.{Send as Send_request, begun, made_with};
 ghost use Rattle.update_protocol.specs.Laws.{Laws};
 ghost use Rattle.update_protocol.specs.Lists.{IsIn, Rising, put};
 ghost use Rattle.update_protocol.specs.Machine.{Accept as Accept_line, Done, Down, End_clean, Full, Line, Log, Needs, Opened, Recovered, Recovering, Redone, Replies, Says, SaysAll, Serving, Shared, Shows, Stable, Stale, State, Stopped, Up, room_of, stands_after, stays_smooth};
@@ -334,9 +335,11 @@ pub fn refusals_say_rows()
     targets_are_those_of_the_parts();
 }
 
-/// What commands show between two recoveries: the tree of all that was accepted, where every target serves, and the records
-/// of a log.
+/// A cluster as it is made and a request that is sent are those of the plain machine. Between two recoveries commands show
+/// the tree of all that was accepted, where every target serves, and the records of a log.
 pub fn commands_say_rows()
+    ensures made { (targets : ℕ) (s : Start) → state_of targets (record { sent = []; epoch = 1; smooth = true; standing = λ t. Serving; start = λ t. 0 }) (fresh s []) ≡ made_with targets }
+    ensures sent { (targets : ℕ) (w : World) (o : Spoken) (request : Request) → state_of targets (record o { sent = o.sent ++ request ∷ [] }) w ≡ begun (state_of targets o w) (Send_request request) }
     ensures tree { (targets : ℕ) → IsCount targets → (h : History) (w : World) → Reached targets h w → (sent : ℕ → Request) → IsSent sent (h ++ entries_of w.since) → (o : Spoken)
         → ((t : ℕ) → t < targets → o.standing t ≡ Serving) → (others : List Line) → Says (state_of targets o w) (Shows (tree_of targets (h ++ entries_of w.since))) others (state_of targets o w) }
     ensures log { (targets : ℕ) → IsCount targets → (h : History) (w : World) → Reached targets h w → (sent : ℕ → Request) → IsSent sent (h ++ entries_of w.since) → (o : Spoken)

@@ -1,10 +1,8 @@
 //! The protocol of the cluster as a machine, and what holds of each of its runs. The world of the cluster is a
 //! value; its events are what a target or a home does, and each has a guard that says no more than the target or
 //! the home can know. Whatever is delivered, lost, repeated or stopped, what was accepted is one legal history, and
-//! what a recovery keeps is a part of it that may be kept.
-//!
-//! No code runs here: each function is a law, its contract says it, and a call does nothing. The layer above may
-//! rest on the laws where its turns are events of this machine.
+//! what a recovery keeps is a part of it that may be kept. No code runs here: each function is a law, its contract
+//! says it, and a call does nothing. The layer above rests on the laws where its turns are events of this machine.
 #![tactic(auto)]
 
 ghost use Rattle.std.specs.Prelude.{[], Bool, List, None, Some, false, length, suc, take, true, ℕ, ◌++◌, ◌+◌, ◌∷◌, ◌<◌, ◌≡◌, ◌≢◌, ◌⊎◌};

@@ -1,2 +1,4 @@
 pub mod FrontText
 pub mod FrontReading
+pub mod StateText
+pub mod StateReading

@@ -127,7 +127,7 @@ module _ (len : ℕ) (rest : List ℕ) where
         zeros_again len 4 rest,
       ) refl
 
-front_read : (len : ℕ) (f : Front) (rest : List ℕ) → FitsFront f → front_in f.cluster f.index len (front_text f ++ rest) ≡ Ok (f, rest)
+pub front_read : (len : ℕ) (f : Front) (rest : List ℕ) → FitsFront f → front_in f.cluster f.index len (front_text f ++ rest) ≡ Ok (f, rest)
 unfolding front_in front_text
 front_read len f rest fits =
     let r1 = seats_text f.seats ++ rest in

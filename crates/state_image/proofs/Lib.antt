@@ -3,3 +3,9 @@ mod Loops
 mod Lengths
 mod Again
 mod Only
+mod Shifted
+mod Owning
+mod Rounds
+mod StateAgain
+mod StateOnly
+mod StateLengths

@@ -270,7 +270,7 @@ pub record IsRead (targets index : ℕ) (bytes : List ℕ) (f : Front) (rest : L
   pub index_is : f.index ≡ index
   pub parts : bytes ≡ front_text f ++ rest
 
-front_takes : (targets index len : ℕ) (bytes : List ℕ) (f : Front) (rest : List ℕ) → IsBytes bytes → targets < 256 → index < 256 → front_in targets index len bytes ≡ Ok (f, rest) → IsRead targets index bytes f rest
+pub front_takes : (targets index len : ℕ) (bytes : List ℕ) (f : Front) (rest : List ℕ) → IsBytes bytes → targets < 256 → index < 256 → front_in targets index len bytes ≡ Ok (f, rest) → IsRead targets index bytes f rest
 unfolding front_in front_text
 front_takes targets index len bytes f rest fits few small e =
     let a = bind_ok (names_at targets index len bytes) _ _ e in

@@ -30,6 +30,11 @@ abbrev pub moved_by : {A : Type 0} → ℕ → Result A ImageFault → Result A 
 moved_by place (Ok x) = Ok x
 moved_by place (Err e) = Err (moved place e)
 
+-- the fault is the moved one, unless memory ran out
+abbrev pub IsMoved : ℕ → ImageFault → ImageFault → Type 0
+IsMoved place e fault.Memory = Unit {0}
+IsMoved place e (fault.BadImage p) = fault.BadImage p ≡ moved place e
+
 -- what is bad in a log
 abbrev pub log_fault : LlogFault → ImageFault
 log_fault (llog.BadLength p) = fault.BadImage p
@@ -74,18 +79,25 @@ payload_at targets index place payload = do
   found ← moved_by place (record_in payload)
   if is_own_value targets index found then Ok tt else Err (fault.BadImage place)
 
--- a payload that stands in a log which begins at the place
-abbrev pub maybe_payload : ℕ → ℕ → ℕ → Option ℕ → Option (List ℕ) → Result (Unit {0}) ImageFault
-maybe_payload targets index log None o = Ok tt
-maybe_payload targets index log (Some place) None = Ok tt
-maybe_payload targets index log (Some place) (Some payload) = payload_at targets index (log + place) payload
+-- a payload that stands at a place of its log
+abbrev pub maybe_payload : ℕ → ℕ → Option ℕ → Option (List ℕ) → Result (Unit {0}) ImageFault
+maybe_payload targets index None o = Ok tt
+maybe_payload targets index (Some place) None = Ok tt
+maybe_payload targets index (Some place) (Some payload) = payload_at targets index place payload
 
 -- the live records with so many indexes, the first of them with this one
-unfoldable pub payloads_at : ℕ → ℕ → ℕ → List Entry → ℕ → ℕ → Result (Unit {0}) ImageFault
-payloads_at targets index log entries first zero = Ok tt
-payloads_at targets index log entries first (suc n) = do
-  one ← maybe_payload targets index log (live_place 32768 first entries) (live_payload first entries)
-  payloads_at targets index log entries (first + 1) n
+unfoldable pub payloads_at : ℕ → ℕ → List Entry → ℕ → ℕ → Result (Unit {0}) ImageFault
+payloads_at targets index entries first zero = Ok tt
+payloads_at targets index entries first (suc n) = do
+  one ← maybe_payload targets index (live_place 32768 first entries) (live_payload first entries)
+  payloads_at targets index entries (first + 1) n
+
+-- a log whose live records are of the target
+unfoldable pub own_log : ℕ → ℕ → List ℕ → Result Log ImageFault
+own_log targets index bytes = do
+  log ← of_log (log_at bytes)
+  payloads ← payloads_at targets index log.entries 0 log.next
+  Ok log
 
 -- ---- the image
 
@@ -94,20 +106,13 @@ objects_in len rest = do
   objects ← moved_by (at len rest) (image_at rest)
   Ok (objects.0, drop objects.1 rest)
 
--- the log that begins at a place
-unfoldable pub own_log : ℕ → ℕ → ℕ → List ℕ → Result Log ImageFault
-own_log targets index place bytes = do
-  log ← moved_by place (of_log (log_at bytes))
-  payloads ← payloads_at targets index place log.entries 0 log.next
-  Ok log
-
 -- A length that is above what is left of the input is bad at the input's end.
 unfoldable pub log_in : ℕ → ℕ → ℕ → List ℕ → Result (Log × List ℕ) ImageFault
 log_in targets index len rest = do
   size ← number_at w32 0 most32 len rest
   space ← zeros_at len 4 size.1
   bytes ← field_at len size.0 space
-  log ← own_log targets index (at len space) bytes.0
+  log ← moved_by (at len space) (own_log targets index bytes.0)
   Ok (log, bytes.1)
 
 -- what the bytes hold, of a target of so many

@@ -16,7 +16,7 @@ pub(crate) fn at(len: usize, rest: &[u8]) -> usize
 
 /// A field of `n` bytes.
 #[tactic(auto, unfolding(object_store::specs::ImageReading::field_at))]
-fn field(len: usize, n: usize, rest: &[u8]) -> Result<(&[u8], &[u8]), ImageFault>
+pub(crate) fn field(len: usize, n: usize, rest: &[u8]) -> Result<(&[u8], &[u8]), ImageFault>
     ensures value { Sees (λ x. (x.0.now, x.1.now)) result (field_at len n rest.now) }
     ensures size { IfOk result (λ x. length x.0.now ≡ n) }
     ensures sum { IfOk result (λ x. length x.0.now + length x.1.now ≡ length rest.now) }

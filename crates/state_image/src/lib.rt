@@ -1,18 +1,24 @@
-//! The state image that a target commits. First comes its front: which target it is and of how many, its
-//! epoch, its numbers, and its seats. Behind it stand the objects and the update log.
+//! The state image that a target commits: its front, which says which target it is and of how many, its epoch,
+//! its numbers and its seats; then its objects and its update log.
 //!
-//! The layer above may rest on this: a front has one spelling, which `encode` writes and whose length `size`
-//! gives; `read` gives the front that the bytes begin with and what is left behind it, else the first field
-//! that isn't as stated is named with its place; what was written is read again.
+//! The layer above may rest on this: a state has one spelling, the front that `encode` writes, the objects, and
+//! the log behind its length; `read` gives what bytes hold, else the first field that isn't as stated is named
+//! with its place, payloads of live records included; what was written is read again.
 #![tactic(auto)]
 
 mod fields;
 mod front;
 mod image;
 mod laws;
+mod moving;
+mod payloads;
 mod reading;
 mod spelling;
+mod whole;
 
 pub use front::Front;
 pub use image::Image;
-pub use laws::one_spelling_per_front;
+pub use laws::{
+    a_state_is_as_long_as_its_parts, a_state_is_read_back, a_state_was_written_so,
+    one_spelling_per_front,
+};

@@ -9,3 +9,4 @@ mod Rounds
 mod StateAgain
 mod StateOnly
 mod StateLengths
+mod Staying

@@ -1,14 +1,12 @@
 -- A state image that was written is read again.
 use Rattle.std.proofs.Common.{◌≡◌, ℕ, ◌-◌, ◌^◌, ◌<◌, List, [], ◌++◌, length, take, drop, Option, Some, Ok, refl, sym, ap, ◌∙◌, subst, arith, length-append}
 use Rattle.std.specs.Int.{w32}
-use Rattle.std.specs.List.{AllByRecursion}
 use Rattle.std.proofs.lemmas.List.{append-nil, drop_at}
 use Rattle.byte_grammar.specs.Numbers.{word, zeros}
 use Rattle.byte_grammar.specs.declared.verdict.Verdict.TheVariants as verdict
 use Rattle.byte_grammar.proofs.Bytes.{wide32, length-zeros}
 use Rattle.llog_store.specs.Log.{Log, IsLog, log_text, spells}
 use Rattle.llog_store.specs.Reading.{log_at}
-use Rattle.llog_store.specs.Changes.{live_payloads}
 use Rattle.object_store.specs.Objects.{ObjectMap}
 use Rattle.object_store.specs.ImageText.{image_text, FitsObjects}
 use Rattle.object_store.specs.ImageReading.{field_at, most32, image_at}
@@ -19,7 +17,7 @@ use Rattle.update_record.specs.Values.{record_value}
 use Rattle.update_record.specs.Decoding.{judge_record}
 use Rattle.state_image.specs.declared.image.Image.{Image}
 use Rattle.state_image.specs.FrontText.{front_text}
-use Rattle.state_image.specs.StateText.{log_part, state_text, IsOwn, FitsState}
+use Rattle.state_image.specs.StateText.{log_part, state_text, AreOwn, FitsState}
 use Rattle.state_image.specs.StateReading.{objects_in, own_log, log_in, image_in}
 use Rattle.state_image.proofs.Again.{front_read}
 use Rattle.state_image.proofs.Owning.{payloads_again}
@@ -37,11 +35,11 @@ module _
   unfolding objects_in
   objects_again len m rest fits = rw (objects_read m rest fits, drop_at (image_text m) rest (length (image_text m)) refl) refl
 
-  own_again : (targets index : ℕ) (log : Log) → IsLog log → AllByRecursion (IsOwn targets index) (live_payloads log.entries) → own_log targets index (log_text log) ≡ Ok log
+  own_again : (targets index : ℕ) (log : Log) → IsLog log → AreOwn targets index log → own_log targets index (log_text log) ≡ Ok log
   unfolding own_log
   own_again targets index log is own = rw (log_read log (log_text log) (is, refl), payloads_again spelled alone targets index log.entries log.next own) refl
 
-  log_again : (targets index len : ℕ) (log : Log) → IsLog log → length (log_text log) < 2 ^ 32 → AllByRecursion (IsOwn targets index) (live_payloads log.entries) → log_in targets index len (log_part log) ≡ Ok (log, [])
+  log_again : (targets index len : ℕ) (log : Log) → IsLog log → length (log_text log) < 2 ^ 32 → AreOwn targets index log → log_in targets index len (log_part log) ≡ Ok (log, [])
   unfolding log_in log_part
   log_again targets index len log is short own =
       let size = length (log_text log) in

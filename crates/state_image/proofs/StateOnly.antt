@@ -1,7 +1,6 @@
 -- A state image that is read was written so.
 use Rattle.std.proofs.Common.{◌≡◌, ℕ, ◌+◌, ◌-◌, ◌==◌, ◌^◌, ◌<◌, ◌≤◌, List, [], ◌++◌, length, take, drop, Option, Some, None, Result, Ok, Err, refl, sym, ap, ◌∙◌, subst, append_assoc, arith, length-append}
 use Rattle.std.specs.Int.{w32}
-use Rattle.std.specs.List.{AllByRecursion}
 use Rattle.std.proofs.lemmas.Bool.{eqb-true}
 use Rattle.std.proofs.lemmas.List.{append-nil, drop_at, nil_from_length}
 use Rattle.byte_grammar.specs.Numbers.{IsBytes, word, zeros}
@@ -11,7 +10,7 @@ use Rattle.llog_store.specs.Log.{Log, IsLog, log_text, spells}
 use Rattle.llog_store.specs.declared.fault.LlogFault.{LlogFault}
 use Rattle.llog_store.specs.declared.fault.LlogFault.TheVariants as llog
 use Rattle.llog_store.specs.Reading.{log_at}
-use Rattle.llog_store.specs.Changes.{live_payloads, live_payload, live_place}
+use Rattle.llog_store.specs.Changes.{live_payload, live_place}
 use Rattle.object_store.specs.declared.fault.ImageFault.{ImageFault}
 use Rattle.object_store.specs.declared.fault.ImageFault.TheVariants as fault
 use Rattle.object_store.specs.Objects.{ObjectMap}
@@ -25,7 +24,7 @@ use Rattle.update_record.specs.Decoding.{judge_record}
 use Rattle.state_image.specs.declared.image.Image.{Image}
 use Rattle.state_image.specs.FrontText.{front_text}
 use Rattle.state_image.specs.FrontReading.{front_in}
-use Rattle.state_image.specs.StateText.{log_part, state_text, IsOwn, FitsState}
+use Rattle.state_image.specs.StateText.{log_part, state_text, AreOwn, FitsState}
 use Rattle.state_image.specs.StateReading.{moved_by, of_log, payloads_at, objects_in, own_log, log_in, image_in}
 use Rattle.state_image.proofs.Only.{front_takes}
 use Rattle.state_image.proofs.Owning.{moved_ok, payloads_only}
@@ -52,12 +51,12 @@ record AreObjects (bytes : List ℕ) (m : ObjectMap) (rest : List ℕ) : Type 0 
 
 record IsOwnLog (targets index : ℕ) (bytes : List ℕ) (log : Log) : Type 0 where
   spells : spells log bytes
-  own : AllByRecursion (IsOwn targets index) (live_payloads log.entries)
+  own : AreOwn targets index log
 
 record IsPart (targets index : ℕ) (bytes : List ℕ) (log : Log) (rest : List ℕ) : Type 0 where
   is : IsLog log
   short : length (log_text log) < 2 ^ 32
-  own : AllByRecursion (IsOwn targets index) (live_payloads log.entries)
+  own : AreOwn targets index log
   text : Takes bytes (log_part log) rest
 
 -- by what is proved of the spellings of objects, logs and records
@@ -127,6 +126,6 @@ module _
       let whole = Takes-then first (Takes-then objects.text log.text) in
       let text : bytes ≡ front_text a.0.0 ++ (image_text b.0.0 ++ log_part c.0.0) =
       whole.parts ∙ ap (λ (r : List ℕ). (front_text a.0.0 ++ (image_text b.0.0 ++ log_part c.0.0)) ++ r) none ∙ append-nil (front_text a.0.0 ++ (image_text b.0.0 ++ log_part c.0.0)) in
-      let own : AllByRecursion (IsOwn a.0.0.cluster a.0.0.index) (live_payloads c.0.0.entries) = rw (front.cluster, front.index_is) log.own in
+      let own : AreOwn a.0.0.cluster a.0.0.index c.0.0 = rw (front.cluster, front.index_is) log.own in
       let is : FitsState made = record { front = front.fits; objects = objects.fits; log = log.is; short = log.short; payloads = own } in
       subst (λ (x : Image). FitsState x × (x.front.cluster ≡ targets) × (x.front.index ≡ index) × (bytes ≡ front_text x.front ++ (image_text x.objects ++ log_part x.log))) g.1 (is, front.cluster, front.index_is, text)

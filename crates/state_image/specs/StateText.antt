@@ -35,9 +35,13 @@ is_own targets index r = has_target index r.parts && all_below targets r.parts
 abbrev pub IsOwn : ℕ → ℕ → List ℕ → Type 0
 IsOwn targets index payload = (r : Record) × spells_record r payload × (is_own targets index r ≡ true)
 
+-- and so is that of each live record
+abbrev pub AreOwn : ℕ → ℕ → Log → Type 0
+AreOwn targets index log = AllByRecursion (IsOwn targets index) (live_payloads log.entries)
+
 pub record FitsState (s : Image) : Type 0 where
   pub front : FitsFront s.front
   pub objects : FitsObjects s.objects
   pub log : IsLog s.log
   pub short : length (log_text s.log) < 2 ^ 32
-  pub payloads : AllByRecursion (IsOwn s.front.cluster s.front.index) (live_payloads s.log.entries)
+  pub payloads : AreOwn s.front.cluster s.front.index s.log

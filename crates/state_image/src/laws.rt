@@ -1,12 +1,13 @@
 ghost use Rattle.std.specs.Prelude.{◌≡◌, ◌<◌, ◌+◌, ◌++◌, ℕ, List, Ok, length};
 ghost use Rattle.byte_grammar.specs.Numbers.{IsBytes};
-ghost use Rattle.llog_store.specs.Log.{log_text};
+ghost use Rattle.llog_store.specs.Log.{Log, log_text};
+ghost use Rattle.llog_store.specs.Changes.{appended, cancelled, repacked};
 ghost use Rattle.object_store.specs.ImageText.{image_text};
 ghost use Rattle.state_image.specs.declared.front.Front.{Front};
 ghost use Rattle.state_image.specs.declared.image.Image.{Image};
 ghost use Rattle.state_image.specs.FrontText.{FitsFront, front_text};
 ghost use Rattle.state_image.specs.FrontReading.{front_in};
-ghost use Rattle.state_image.specs.StateText.{FitsState, state_text};
+ghost use Rattle.state_image.specs.StateText.{IsOwn, AreOwn, FitsState, state_text};
 ghost use Rattle.state_image.specs.StateReading.{image_in};
 
 use llog_store::{a_payload_stands_at_its_place, one_spelling_per_log};
@@ -39,6 +40,21 @@ pub fn a_state_was_written_so()
     verdicts_are_of_spelled_records();
     a_record_is_read_back();
 }
+
+/// A log of records of the target is one when another is appended.
+pub fn a_log_stays_own_when_appended()
+    ensures { (targets index : ℕ) (log : Log) (payload : List ℕ) → AreOwn targets index log → IsOwn targets index payload → AreOwn targets index (appended log payload) }
+{}
+
+/// It is one when a record is cancelled.
+pub fn a_log_stays_own_when_cancelled()
+    ensures { (targets index : ℕ) (log : Log) (record_index : ℕ) → AreOwn targets index log → AreOwn targets index (cancelled log record_index) }
+{}
+
+/// It is one when it is packed.
+pub fn a_log_stays_own_when_packed()
+    ensures { (targets index : ℕ) (log : Log) → AreOwn targets index log → AreOwn targets index (repacked log) }
+{}
 
 /// How long a state image is: its front, its objects, eight bytes, and its log.
 #[tactic(auto, using(crate::proofs::StateLengths::state_length))]

@@ -19,6 +19,7 @@ mod whole;
 pub use front::Front;
 pub use image::Image;
 pub use laws::{
+    a_log_stays_own_when_appended, a_log_stays_own_when_cancelled, a_log_stays_own_when_packed,
     a_state_is_as_long_as_its_parts, a_state_is_read_back, a_state_was_written_so,
     one_spelling_per_front,
 };

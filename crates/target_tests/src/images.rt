@@ -1,7 +1,11 @@
 use fid_space::{Bytes, Cluster};
-use object_store::ImageFault;
+use llog_store::Llog;
+use object_store::{ImageFault, Objects};
 use reply_cache::{Judgement, Seats};
-use state_image::{Front, one_spelling_per_front};
+use state_image::{
+    Front, Image, a_state_is_as_long_as_its_parts, a_state_is_read_back, a_state_was_written_so,
+    one_spelling_per_front,
+};
 use std::test::Fail;
 use tree_model::{Errno, Reply};
 
@@ -80,5 +84,33 @@ fn names_the_first_bad_field(rt: HostRuntime) -> Result<(), Fail> {
             Err(fault) => assert_eq!(rt; fault, ImageFault::BadImage(place), "{at}"),
         }
     }
+    Ok(())
+}
+
+#[test]
+fn reads_a_whole_image(rt: HostRuntime) -> Result<(), Fail> {
+    let cluster = Cluster::new(2).expect(&rt, "two targets");
+    let objects = Objects::new(rt.alloc(), cluster, 1)?;
+    let log = Llog::new(rt.alloc())?;
+    let mut bytes = Bytes::new(rt.alloc());
+    sample(cluster).encode(&mut bytes)?;
+    objects.encode(&mut bytes)?;
+    bytes.append(&[0, 0x80, 0, 0, 0, 0, 0, 0])?;
+    bytes.append(log.chunk(0).expect(&rt, "a header"))?;
+    match Image::read(rt.alloc(), cluster, 1, bytes.bytes()) {
+        Ok(image) => {
+            assert_eq!(rt; (image.front.epoch, image.objects.size()), (6, 8));
+            assert_eq!(rt; (image.log.next(), image.log.records()), (1, 0));
+        }
+        Err(_) => assert!(rt; false),
+    }
+    bytes.push(0)?;
+    match Image::read(rt.alloc(), cluster, 1, bytes.bytes()) {
+        Ok(_) => assert!(rt; false),
+        Err(fault) => assert_eq!(rt; fault, ImageFault::BadImage(32_865)),
+    }
+    a_state_is_read_back();
+    a_state_was_written_so();
+    a_state_is_as_long_as_its_parts();
     Ok(())
 }

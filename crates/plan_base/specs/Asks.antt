@@ -1,5 +1,5 @@
 -- What is checked of an operation, one question after another, and how far one comes with what was told.
-use Rattle.std.specs.Prelude.{ℕ, zero, suc, ◌+◌, ◌==◌, ◌&&◌, Bool, true, Option, Some, None, Result, Ok, Err, if◌then◌else◌, List}
+use Rattle.std.specs.Prelude.{ℕ, zero, suc, ◌+◌, ◌==◌, ◌&&◌, Bool, true, Option, Some, None, Result, Ok, Err, if◌then◌else◌, List, [], ◌++◌}
 use Rattle.fid_space.specs.declared.fid.Fid.{Fid}
 use Rattle.tree_model.specs.declared.errno.Errno.{Errno}
 use Rattle.tree_model.specs.declared.errno.Errno.TheVariants.{ENOENT, ENOTDIR, EINVAL, ELOOP}
@@ -13,7 +13,7 @@ use Rattle.plan_base.specs.declared.question.Stop.{Stop}
 use Rattle.plan_base.specs.declared.question.Stop.TheVariants as stop
 use Rattle.plan_base.specs.Places.{parts_of}
 use Rattle.plan_base.specs.Stops.{◌>>=◌, unless}
-use Rattle.plan_base.specs.Told.{Told, node_told, entry_told, count_told, value_told}
+use Rattle.plan_base.specs.Told.{Told, node_told, entry_told, count_told, value_told, names_told}
 
 pub data Asks : Type 0 where
   -- a node that must be a directory
@@ -26,6 +26,8 @@ pub data Asks : Type 0 where
   AskEntry : (directory : Fid) (layout : Layout) (name : List ℕ) (next : Option Fid → Asks) → Asks
   -- whether a directory has no entry: all its parts are asked, also after one that has
   AskEmpty : (directory : Fid) (layout : Layout) (next : Bool → Asks) → Asks
+  -- all entries of a directory, at most 33 of each part: all its parts are asked, also after more than 32 entries
+  AskNames : (directory : Fid) (layout : Layout) (next : List (List ℕ × Fid) → Asks) → Asks
   -- a rename's walk from a directory up
   AskWalk : (moved from : Fid) (next : Asks) → Asks
   Refuse : (errno : Errno) → Asks
@@ -47,6 +49,15 @@ none_told t directory layout index (suc left) =
 
 abbrev pub empty_told : Told → Fid → Layout → Result Bool Stop
 empty_told t directory layout = none_told t directory layout 0 (parts_of (laid layout))
+
+-- the entries of so many parts, from one part on
+unfoldable pub names_from : Told → Fid → Layout → ℕ → ℕ → Result (List (List ℕ × Fid)) Stop
+names_from t directory layout index zero = Ok []
+names_from t directory layout index (suc left) =
+    names_told t directory layout index >>= (λ entries. names_from t directory layout (suc index) left >>= (λ more. Ok (entries ++ more)))
+
+abbrev pub all_names_told : Told → Fid → Layout → Result (List (List ℕ × Fid)) Stop
+all_names_told t directory layout = names_from t directory layout 0 (parts_of (laid layout))
 
 -- the parent of a directory, as it was told
 abbrev pub parent_seen : Option Seen → Fid
@@ -74,6 +85,7 @@ answer t (AskNode fid next) = node_told t fid >>= (λ seen. answer t (next seen)
 answer t (AskValue fid name next) = value_told t fid name >>= (λ value. answer t (next value))
 answer t (AskEntry directory layout name next) = entry_told t directory layout name >>= (λ child. answer t (next child))
 answer t (AskEmpty directory layout next) = empty_told t directory layout >>= (λ is_empty. answer t (next is_empty))
+answer t (AskNames directory layout next) = all_names_told t directory layout >>= (λ entries. answer t (next entries))
 answer t (AskWalk moved from next) = unless (walk_told t moved 1023 from) (answer t next)
 answer t (Refuse errno) = Err (stop.Refused errno)
 answer t (Settle outcome) = Ok outcome

@@ -1,5 +1,5 @@
 -- Which results a question may have.
-use Rattle.std.specs.Prelude.{ℕ, ◌==◌, ◌&&◌, ◌||◌, Bool, true, false, not, nat_le, Option, Some, None, Result, Ok, Err, if◌then◌else◌, List, length}
+use Rattle.std.specs.Prelude.{ℕ, ◌==◌, ◌&&◌, ◌||◌, Bool, true, false, not, nat_le, Option, Some, None, Result, Ok, Err, if◌then◌else◌, List, [], length}
 use Rattle.std.specs.Int.{w32}
 use Rattle.byte_grammar.specs.Values.{number_at}
 use Rattle.out_update.specs.declared.result.UpdateResult.{UpdateResult}
@@ -8,6 +8,7 @@ use Rattle.object_store.specs.declared.body.ObjectKind.{ObjectKind}
 use Rattle.object_store.specs.declared.body.ObjectKind.TheVariants.{File, Directory, Stripe}
 use Rattle.object_store.specs.declared.fault.ImageFault.{ImageFault}
 use Rattle.object_store.specs.ImageReading.{body_at}
+use Rattle.plan_base.specs.Listed.{rise_to_end}
 use Rattle.plan_base.specs.declared.question.Question.{Question}
 use Rattle.plan_base.specs.declared.question.Question.TheVariants as question
 
@@ -39,6 +40,7 @@ fits_question (question.Node fid) r = if r.code == 0 then is_node_text (body_at 
 fits_question (question.Value fid name) r = if r.code == 0 then nat_le (length r.body) 4096 else (fails r 2 || fails r 61)
 fits_question (question.Entry directory layout name) r = if r.code == 0 then length r.body == 16 else (fails r 2 || fails r 20)
 fits_question (question.Count directory layout index) r = if r.code == 0 then length r.body == 4 else fails r 20
+fits_question (question.Names directory layout index) r = if r.code == 0 then rise_to_end 33 [] r.body else fails r 20
 
 -- no question, no result
 abbrev pub fits_asked : Option Question → UpdateResult → Bool

@@ -38,6 +38,7 @@ use Rattle.plan_base.specs.declared.question.Stop.TheVariants as stop
 use Rattle.plan_base.specs.declared.outcome.Outcome.{Outcome}
 use Rattle.plan_base.specs.declared.seen.Seen.{Seen}
 use Rattle.plan_base.specs.Told.{Told, coded_told}
+use Rattle.plan_base.specs.Listed.{listed_in}
 use Rattle.plan_base.specs.Asks.{answer}
 use Rattle.plan_base.specs.Planning.{asks}
 use Rattle.plan_base.specs.Places.{node_place, entry_at, count_at}
@@ -62,6 +63,9 @@ need_of targets (question.Entry directory layout name) =
 need_of targets (question.Count directory layout index) =
     let at = count_at targets directory (laid layout) index in
     record { target = at.0; ask = record { kind = kind.Count; batch = 0; fid = at.1; params = [] } }
+need_of targets (question.Names directory layout index) =
+    let at = count_at targets directory (laid layout) index in
+    record { target = at.0; ask = record { kind = kind.Names; batch = 0; fid = at.1; params = [] } }
 
 -- ---- results
 
@@ -99,6 +103,7 @@ told_more t (question.Node fid) r = record t { nodes = insert t.nodes fid (node_
 told_more t (question.Entry directory layout name) r = record t { entries = t.entries ++ record { directory = directory; name = name; child = child_in r } ∷ [] }
 told_more t (question.Count directory layout index) r = record t { counts = t.counts ++ record { directory = directory; index = index; entries = entries_in r } ∷ [] }
 told_more t (question.Value fid name) r = record t { values = t.values ++ record { fid = fid; name = name; value = attribute_in r } ∷ [] }
+told_more t (question.Names directory layout index) r = record t { names = t.names ++ record { directory = directory; index = index; entries = listed_in r } ∷ [] }
 
 abbrev pub told_after : Told → Option Question → Option UpdateResult → Told
 told_after t None r = t
@@ -168,28 +173,31 @@ step_after p r =
 
 -- how they are told apart
 abbrev pub Fields : Type 0
-Fields = Fid ⊎ ((Fid × (Layout × List ℕ)) ⊎ ((Fid × (Layout × ℕ)) ⊎ (Fid × List ℕ)))
+Fields = Fid ⊎ ((Fid × (Layout × List ℕ)) ⊎ ((Fid × (Layout × ℕ)) ⊎ ((Fid × List ℕ) ⊎ (Fid × (Layout × ℕ)))))
 
 abbrev pub question_fields : Question → Fields
 question_fields (question.Node f) = inl f
 question_fields (question.Entry d l x) = inr (inl (d, (l, x)))
 question_fields (question.Count d l i) = inr (inr (inl (d, (l, i))))
-question_fields (question.Value f x) = inr (inr (inr (f, x)))
+question_fields (question.Value f x) = inr (inr (inr (inl (f, x))))
+question_fields (question.Names d l i) = inr (inr (inr (inr (d, (l, i)))))
 
 abbrev pub question_of : Fields → Question
 question_of (inl f) = question.Node f
 question_of (inr (inl v)) = question.Entry v.0 v.1.0 v.1.1
 question_of (inr (inr (inl v))) = question.Count v.0 v.1.0 v.1.1
-question_of (inr (inr (inr v))) = question.Value v.0 v.1
+question_of (inr (inr (inr (inl v)))) = question.Value v.0 v.1
+question_of (inr (inr (inr (inr v)))) = question.Names v.0 v.1.0 v.1.1
 
 abbrev pub question_again : (q : Question) → question_of (question_fields q) ≡ q
 question_again (question.Node f) = refl
 question_again (question.Entry d l x) = refl
 question_again (question.Count d l i) = refl
 question_again (question.Value f x) = refl
+question_again (question.Names d l i) = refl
 
 abbrev pub coded_question : Coded Question
-coded_question = code_by Fields (coded⊎ coded_fid (coded⊎ (coded× coded_fid (coded× coded_layout coded_name)) (coded⊎ (coded× coded_fid (coded× coded_layout coded_ℕ)) (coded× coded_fid coded_name)))) question_fields question_of question_again
+coded_question = code_by Fields (coded⊎ coded_fid (coded⊎ (coded× coded_fid (coded× coded_layout coded_name)) (coded⊎ (coded× coded_fid (coded× coded_layout coded_ℕ)) (coded⊎ (coded× coded_fid coded_name) (coded× coded_fid (coded× coded_layout coded_ℕ)))))) question_fields question_of question_again
 
 abbrev pub coded_planning : Coded Planning
 coded_planning =

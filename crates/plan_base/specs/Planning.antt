@@ -1,24 +1,27 @@
 -- What is checked of each operation, and what is settled where no check fails.
-use Rattle.std.specs.Prelude.{bit_and, ℕ, ◌==◌, ◌≤◌, ◌&&◌, Bool, false, not, nat_le, is_some, Option, Some, None, if◌then◌else◌, List, [], ◌∷◌, ◌++◌}
+use Rattle.std.specs.Prelude.{bit_and, ℕ, suc, ◌==◌, ◌≤◌, ◌&&◌, Bool, false, not, nat_le, nat_lt, length, is_some, Option, Some, None, if◌then◌else◌, List, [], ◌∷◌, ◌++◌}
+use Rattle.std.specs.List.{flat_map}
+use Rattle.std.specs.FinMap.{entries, from_entries}
 use Rattle.fid_space.specs.declared.fid.Fid.{Fid}
 use Rattle.out_update.specs.declared.update.Update.{Update}
 use Rattle.tree_model.specs.declared.errno.Errno.{Errno}
-use Rattle.tree_model.specs.declared.errno.Errno.TheVariants.{EPERM, ENOENT, ENOTDIR, EISDIR, ENOTEMPTY, ENOSPC, EMLINK, ENODATA}
+use Rattle.tree_model.specs.declared.errno.Errno.TheVariants.{EPERM, ENOENT, ENOTDIR, EISDIR, EINVAL, EFBIG, ENOTEMPTY, ENOSPC, EMLINK, ENODATA}
 use Rattle.tree_model.specs.declared.op.Op.{Op}
 use Rattle.tree_model.specs.declared.op.Op.TheVariants as ops
 use Rattle.tree_model.specs.declared.reply.Reply.{Reply}
 use Rattle.tree_model.specs.declared.reply.Reply.TheVariants as replies
-use Rattle.tree_model.specs.Tree.{same_fid}
-use Rattle.tree_model.specs.Step.{client_fault, layout_fault, taken_fault, absent_fault, kind_fault, same_place, fid_reply}
+use Rattle.tree_model.specs.Fids.{name_cmp}
+use Rattle.tree_model.specs.Tree.{same_fid, root_fid}
+use Rattle.tree_model.specs.Step.{client_fault, stripes_fault, layout_fault, taken_fault, absent_fault, kind_fault, same_place, fid_reply}
 use Rattle.striped_dir.specs.declared.layout.Layout.{Layout}
 use Rattle.striped_dir.specs.Layouts.{laid}
 use Rattle.striped_dir.specs.Parts.{made_stripes, destroy_of}
 use Rattle.object_store.specs.Meaning.{is_directory}
 use Rattle.plan_base.specs.declared.seen.Seen.{Seen}
 use Rattle.plan_base.specs.declared.outcome.Outcome.{Outcome}
-use Rattle.plan_base.specs.Asks.{Asks, AskDirectory, AskNode, AskValue, AskEntry, AskEmpty, AskWalk, Refuse, Settle}
-use Rattle.plan_base.specs.Places.{node_place, entry_at, stripes_gone}
-use Rattle.plan_base.specs.Updates.{Placed, on_target, create_update, insert_update, delete_update, xattr_set_update, ref_del_update, ref_add_update, xattr_del_update, attr_set_update, parent_set_update, file_body, directory_body}
+use Rattle.plan_base.specs.Asks.{Asks, AskDirectory, AskNode, AskValue, AskEntry, AskEmpty, AskNames, AskWalk, Refuse, Settle}
+use Rattle.plan_base.specs.Places.{node_place, entry_at, stripes_made, stripes_gone}
+use Rattle.plan_base.specs.Updates.{Placed, on_target, create_update, insert_update, delete_update, xattr_set_update, ref_del_update, ref_add_update, xattr_del_update, attr_set_update, parent_set_update, layout_set_update, file_body, directory_body}
 
 -- ---- checks
 
@@ -216,6 +219,67 @@ found_value (Some value) = Settle (settled (replies.Value value) [])
 abbrev pub getxattr_asks : Fid → List ℕ → Asks
 getxattr_asks fid name = AskNode fid (λ node. found_node node (λ seen. AskValue fid name found_value))
 
+-- ---- migrate
+
+-- one generation more; the last one stays
+abbrev pub next_generation : ℕ → ℕ
+next_generation generation = if nat_lt generation 0x0ffffffe then suc generation else generation
+
+-- the layout after another one
+abbrev pub next_layout : Layout → ℕ → ℕ → Layout
+next_layout old count index =
+    if count == 0 then record { count = 0; start = 0; generation = next_generation old.generation }
+    else record { count = count; start = index; generation = next_generation old.generation }
+
+-- a migrate: a directory with one layout gets another
+pub record Migration : Type 0 where
+  pub targets : ℕ
+  pub batch : ℕ
+  pub directory : Fid
+  pub old : Layout
+  pub new : Layout
+
+abbrev pub taken_from : Migration → List ℕ → Placed
+taken_from m name =
+    let at = entry_at m.targets m.directory (laid m.old) name in
+    on_target at.0 (delete_update m.batch at.1 name)
+
+abbrev pub brought_to : Migration → List ℕ → Fid → Placed
+brought_to m name child =
+    let at = entry_at m.targets m.directory (laid m.new) name in
+    on_target at.0 (insert_update m.batch at.1 name child)
+
+-- an entry leaves a plain directory, and comes to its new place
+abbrev pub moved_entry : Migration → List ℕ × Fid → List Placed
+moved_entry m e = if m.old.count == 0 then taken_from m e.0 ∷ brought_to m e.0 e.1 ∷ [] else brought_to m e.0 e.1 ∷ []
+
+-- by the bytes of their names; those of a plain directory that stays plain stand where they are
+abbrev pub moved_entries : Migration → List (List ℕ × Fid) → List Placed
+moved_entries m told =
+    if (m.old.count == 0) && (m.new.count == 0) then [] else flat_map (moved_entry m) (entries (from_entries {R = name_cmp} told))
+
+unfoldable pub migrated : Migration → List (List ℕ × Fid) → Outcome
+migrated m told =
+    settled replies.Ok (on_target (node_place m.targets m.directory) (layout_set_update m.batch m.directory m.new)
+    ∷ (stripes_made m.targets m.directory (laid m.new) m.batch ++ (moved_entries m told ++ stripes_gone m.targets m.directory (laid m.old) m.batch)))
+
+abbrev pub migrate_fault : ℕ → Fid → ℕ → ℕ → Option Errno
+migrate_fault targets directory count index = if same_fid directory root_fid then Some EINVAL else stripes_fault targets count index
+
+abbrev pub many_fault : List (List ℕ × Fid) → Option Errno
+many_fault told = if nat_lt 32 (length told) then Some EFBIG else None
+
+abbrev pub migrate_asks : ℕ → ℕ → Fid → ℕ → ℕ → Asks
+migrate_asks targets batch directory count index =
+    AskDirectory directory (λ seen. check (migrate_fault targets directory count index)
+    (AskNames directory seen.body.layout (λ told. check (many_fault told) (Settle (migrated (record {
+      targets = targets;
+      batch = batch;
+      directory = directory;
+      old = seen.body.layout;
+      new = next_layout seen.body.layout count index;
+    }) told)))))
+
 abbrev pub asks : ℕ → ℕ → Op → Asks
 asks targets batch (ops.Create parent name fid) = create_asks targets batch parent name fid
 asks targets batch (ops.Mkdir parent name fid stripes) = mkdir_asks targets batch parent name fid stripes
@@ -229,7 +293,7 @@ asks targets batch (ops.SetAttr fid mode uid gid) = setattr_asks targets batch f
 asks targets batch (ops.DelXattr fid name) = delxattr_asks targets batch fid name
 asks targets batch (ops.GetAttr fid) = getattr_asks fid
 asks targets batch (ops.GetXattr fid name) = getxattr_asks fid name
-asks targets batch (ops.Migrate directory count index) = Refuse ENOENT
+asks targets batch (ops.Migrate directory count index) = migrate_asks targets batch directory count index
 
 -- stripes that a cluster may have
 abbrev pub AreSmall : Option (ℕ × ℕ) → Type 0

@@ -2,14 +2,16 @@ ghost use Rattle.std.specs.Prelude.{◌≡◌, ◌<◌};
 ghost use Rattle.object_store.specs.Meaning.{is_directory};
 ghost use Rattle.tree_model.specs.Step.{layout_fault, stripes_fault};
 ghost use Rattle.plan_base.specs.Stops.{Reaches, Passes};
-ghost use Rattle.plan_base.specs.Asks.{directory_told, none_told, empty_told, walk_told, parent_seen};
+ghost use Rattle.plan_base.specs.Asks.{directory_told, none_told, empty_told, names_from, all_names_told, walk_told, parent_seen};
 
+use crate::entry_list::EntryList;
 use crate::facts::Facts;
 use crate::places::parts_of;
 use crate::question::Stop;
 use crate::seen::Seen;
 use fid_space::{Cluster, Fid};
 use object_store::ObjectKind;
+use std::alloc::Global;
 use striped_dir::Layout;
 use tree_model::Errno;
 
@@ -59,6 +61,18 @@ impl Facts {
             is_empty = is_empty && entries == 0;
         }
         Ok(is_empty)
+    }
+
+    /// The entries of a directory by its parts, at most 33 of each. All its parts are asked.
+    pub fn all_names(&self, alloc: Global, fid: Fid, layout: Layout) -> Result<EntryList, Stop>
+        ensures { Reaches (λ x. x) result (all_names_told self.now fid layout) }
+    {
+        let parts = parts_of(layout);
+        let mut entries = EntryList::new(alloc);
+        for index in 0..parts {
+            entries.extend(alloc, self.names(fid, layout, index)?)?;
+        }
+        Ok(entries)
     }
 
     /// Walks from a directory up to the root, past at most 1,024 directories. Each is compared with the moved

@@ -2,10 +2,11 @@ ghost use Rattle.std.specs.Prelude.{◌≡◌, ◌++◌, ◌∷◌, [], Some, On
 ghost use Rattle.std.specs.Option.{option_map};
 ghost use Rattle.std.specs.FinMap as map;
 ghost use Rattle.plan_base.specs.Stops.{Reaches};
-ghost use Rattle.plan_base.specs.Told.{untold, entry_in, count_in, value_in, node_told, entry_told, count_told, value_told};
+ghost use Rattle.plan_base.specs.Told.{untold, entry_in, count_in, value_in, names_in, node_told, entry_told, count_told, value_told, names_told};
 
+use crate::entry_list::EntryList;
 use crate::question::{Question, Stop};
-use crate::seen::{CountFact, EntryFact, Seen, ValueFact};
+use crate::seen::{CountFact, EntryFact, NamesFact, Seen, ValueFact};
 use fid_space::{Bytes, Fid};
 use std::alloc::{AllocError as Memory, Global};
 use std::collections::BTreeMap;
@@ -20,6 +21,7 @@ pub struct Facts {
     entries: Vec<EntryFact>,
     counts: Vec<CountFact>,
     values: Vec<ValueFact>,
+    names: Vec<NamesFact>,
 }
 
 impl Model for Facts {
@@ -30,7 +32,7 @@ impl Model for Facts {
 
     ghost coded = { coded_told };
 
-    ghost view = { λ f. record { nodes = from_entries f.nodes.entries; entries = f.entries.items; counts = f.counts.items; values = f.values.items } };
+    ghost view = { λ f. record { nodes = from_entries f.nodes.entries; entries = f.entries.items; counts = f.counts.items; values = f.values.items; names = f.names.items } };
 }
 
 impl Facts {
@@ -43,6 +45,7 @@ impl Facts {
             entries: Vec::new(alloc),
             counts: Vec::new(alloc),
             values: Vec::new(alloc),
+            names: Vec::new(alloc),
         }
     }
 
@@ -99,6 +102,16 @@ impl Facts {
         }
     }
 
+    /// The first 33 entries of a part.
+    pub fn names(&self, directory: Fid, layout: Layout, index: u8) -> Result<&EntryList, Stop>
+        ensures { Reaches (λ x. x.now) result (names_told self.now directory layout index) }
+    {
+        match names_in(self.names.as_slice(), directory, index) {
+            Some(entries) => Ok(entries),
+            None => Err(Stop::Ask(Question::Names(directory, layout, index))),
+        }
+    }
+
     /// Keeps what was told of a node.
     pub(crate) fn tell_node(&mut self, fid: Fid, seen: Option<Seen>) -> Result<(), Memory>
         ensures { OnOk result (self.new ≡ record self.old { nodes = map.insert self.old.nodes fid seen }) }
@@ -128,6 +141,14 @@ impl Facts {
         ensures { OnOk result (self.new ≡ record self.old { values = self.old.values ++ fact ∷ [] }) }
     {
         self.values.push(fact)?;
+        Ok(())
+    }
+
+    /// Keeps what was told of the entries of a part.
+    pub(crate) fn tell_names(&mut self, fact: NamesFact) -> Result<(), Memory>
+        ensures { OnOk result (self.new ≡ record self.old { names = self.old.names ++ fact ∷ [] }) }
+    {
+        self.names.push(fact)?;
         Ok(())
     }
 }
@@ -160,6 +181,17 @@ fn value_in<'a>(facts: &'a [ValueFact], fid: Fid, name: &Name) -> Option<Option<
     for fact in facts {
         if fact.fid == fid && fact.name == *name {
             return Some(fact.value.as_ref());
+        }
+    }
+    None
+}
+
+fn names_in(facts: &[NamesFact], directory: Fid, index: u8) -> Option<&EntryList>
+    ensures { option_map (λ l. l.now) result ≡ names_in facts.now directory index }
+{
+    for fact in facts {
+        if fact.directory == directory && fact.index == index {
+            return Some(&fact.entries);
         }
     }
     None

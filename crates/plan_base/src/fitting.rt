@@ -1,8 +1,8 @@
-ghost use Rattle.std.specs.Prelude.{◌≡◌};
-ghost use Rattle.std.specs.Prelude.{length};
+ghost use Rattle.std.specs.Prelude.{◌≡◌, [], length};
 ghost use Rattle.object_store.specs.ImageReading.{body_at};
 ghost use Rattle.plan_base.specs.Fitting.{fails, is_stripe_kind, is_node_text, fits_question};
 
+use crate::listed::rise_to_end;
 use crate::question::Question;
 use byte_grammar::u32_at;
 use object_store::{Body, ObjectKind};
@@ -73,5 +73,12 @@ pub(crate) fn fits_question(question: &Question, fact: &UpdateResult) -> bool
             }
         }
         Question::Count(_, _, _) => { if done { len == 4 } else { fails(fact, 20) } }
+        Question::Names(_, _, _) => {
+            if done {
+                rise_to_end(fact.body.bytes())
+            } else {
+                fails(fact, 20)
+            }
+        }
     }
 }

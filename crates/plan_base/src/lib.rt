@@ -7,9 +7,11 @@
 #![tactic(auto)]
 
 mod checks;
+mod entry_list;
 mod facts;
 mod fitting;
 mod gathering;
+mod listed;
 mod outcome;
 mod parsing;
 mod places;
@@ -19,10 +21,11 @@ mod state;
 mod updates;
 
 pub use checks::{is_directory, layout_fault};
+pub use entry_list::EntryList;
 pub use facts::Facts;
 pub use outcome::Outcome;
-pub use places::{entry_at, node_place, stripes_gone};
+pub use places::{entry_at, node_place, stripes_gone, stripes_made};
 pub use question::{Question, Stop};
-pub use seen::{CountFact, EntryFact, Seen, ValueFact};
+pub use seen::{CountFact, EntryFact, NamesFact, Seen, ValueFact};
 pub use state::PlanState;
 pub use updates::{Maker, copied};

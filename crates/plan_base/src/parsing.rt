@@ -12,7 +12,7 @@ use out_update::UpdateResult;
 use std::alloc::{AllocError as Memory, Global};
 
 #[tactic(auto, unfolding(out_update::specs::Values::fid_value))]
-fn fid_at(bytes: &[u8]) -> Result<(Fid, &[u8]), BuildFault>
+pub(crate) fn fid_at(bytes: &[u8]) -> Result<(Fid, &[u8]), BuildFault>
     ensures value { Gives (λ x. (x.0, x.1.now)) result (fid_value bytes.now) }
     ensures free { IsErrOf result BuildFault.Memory → ⊥ }
 {

@@ -2,12 +2,12 @@ ghost use Rattle.std.specs.Prelude.{◌≡◌, ◌<◌, ◌≤◌, IfOk, true};
 ghost use Rattle.fid_space.specs.Places.{has_place};
 ghost use Rattle.striped_dir.specs.Layouts.{laid};
 ghost use Rattle.striped_dir.specs.Parts.{FitsDirectory};
-ghost use Rattle.plan_base.specs.Places.{node_place, may_stand, entry_at, count_at, parts_of, stripes_gone};
+ghost use Rattle.plan_base.specs.Places.{node_place, may_stand, entry_at, count_at, parts_of, stripes_made, stripes_gone};
 
 use fid_space::{Cluster, Fid, NoHome, is_client, locate};
 use out_update::Parts;
 use std::alloc::{AllocError as Memory, Global};
-use striped_dir::{Layout, part, place, remove_parts};
+use striped_dir::{Layout, make_parts, part, place, remove_parts};
 use tree_model::Name;
 
 /// The target of a node.
@@ -71,6 +71,24 @@ pub(crate) fn parts_of(layout: Layout) -> u8
     ensures { result ≡ parts_of (laid layout) }
 {
     if layout.count == 0 { 1 } else { layout.count }
+}
+
+/// The creates of a directory's stripes.
+#[tactic(auto, unfolding(crate::specs::Places::stripes_made))]
+pub fn stripes_made(
+    alloc: Global,
+    cluster: Cluster,
+    dir: Fid,
+    layout: Layout,
+    batch: u64,
+) -> Result<Parts, Memory>
+    ensures { IfOk result (λ parts. parts ≡ stripes_made cluster dir (laid layout) batch) }
+{
+    if may_stand(cluster, dir, layout) {
+        make_parts(alloc, cluster, dir, layout, batch)
+    } else {
+        Ok(Parts::new(alloc))
+    }
 }
 
 /// The destroys of a directory's stripes.

@@ -14,6 +14,8 @@ pub enum Question {
     Count(Fid, Layout, u8),
     /// The value of an extended attribute of a node.
     Value(Fid, Name),
+    /// The first 33 entries of a part of a directory with this layout, by its index.
+    Names(Fid, Layout, u8),
 }
 
 /// Why the checks of an operation go on no further.

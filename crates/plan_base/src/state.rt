@@ -12,11 +12,12 @@ ghost use Rattle.plan_base.specs.Fitting.{fits_asked};
 use crate::facts::Facts;
 use crate::fitting::fits_question;
 use crate::gathering::parts_of;
+use crate::listed::listed_in;
 use crate::outcome::Outcome;
 use crate::parsing::{attribute_in, child_in, entries_in, node_in};
 use crate::places::{count_at, entry_at, node_place};
 use crate::question::{Question, Stop};
-use crate::seen::{CountFact, EntryFact, ValueFact};
+use crate::seen::{CountFact, EntryFact, NamesFact, ValueFact};
 use crate::updates::{Maker, copied};
 use fid_space::{Cluster, Fid, locate};
 use out_update::{Kind, Params, Parts, Update, UpdateResult};
@@ -47,8 +48,10 @@ impl Model for PlanState {
 }
 
 impl PlanState {
-    /// The allocator that it takes memory from.
-    pub fn alloc(&self) -> Global {
+    /// The allocator that it takes memory from, which is the program's only one.
+    pub fn alloc(&self) -> Global
+        ensures { (other : Global) → result ≡ other }
+    {
         self.alloc
     }
 
@@ -123,6 +126,14 @@ impl PlanState {
                 let value = attribute_in(self.alloc, fact)?;
                 self.facts.tell_value(ValueFact { fid, name, value })
             }
+            Question::Names(directory, _, index) => {
+                let entries = listed_in(self.alloc, fact)?;
+                self.facts.tell_names(NamesFact {
+                    directory,
+                    index,
+                    entries,
+                })
+            }
         }
     }
 
@@ -193,6 +204,13 @@ impl PlanState {
                 Ok(Need {
                     target,
                     ask: ask(Kind::Count, object, Params::new(self.alloc())),
+                })
+            }
+            Question::Names(directory, layout, index) => {
+                let (target, object) = count_at(cluster, *directory, *layout, *index);
+                Ok(Need {
+                    target,
+                    ask: ask(Kind::Names, object, Params::new(self.alloc())),
                 })
             }
         }

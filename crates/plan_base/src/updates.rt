@@ -2,12 +2,13 @@ ghost use Rattle.std.specs.Prelude.{◌≡◌, ◌++◌, ◌∷◌, [], IfOk, On
 ghost use Rattle.out_update.specs.Spelling.{fid_bytes};
 ghost use Rattle.object_store.specs.Bodies.{body_bytes};
 ghost use Rattle.striped_dir.specs.Parts.{destroy_of};
-ghost use Rattle.plan_base.specs.Updates.{on_target, create_update, insert_update, delete_update, xattr_set_update, ref_del_update, ref_add_update, xattr_del_update, attr_set_update, parent_set_update};
+ghost use Rattle.plan_base.specs.Updates.{on_target, create_update, insert_update, delete_update, xattr_set_update, ref_del_update, ref_add_update, xattr_del_update, attr_set_update, parent_set_update, layout_set_update};
 
 use fid_space::{Bytes, Fid};
 use object_store::Body;
 use out_update::{Kind, Params, Parts, Update, UpdateRequest};
 use std::alloc::{AllocError as Memory, Global};
+use striped_dir::Layout;
 use tree_model::Name;
 
 /// Makes the updates of one batch.
@@ -135,6 +136,14 @@ impl Maker {
             fid,
             one(self.alloc, fid_param(self.alloc, parent)?)?,
         ))
+    }
+
+    /// Sets the layout of a directory.
+    pub fn set_layout(self, fid: Fid, layout: Layout) -> Result<Update, Memory>
+        ensures { IfOk result (λ u. u ≡ layout_set_update self.batch fid layout) }
+    {
+        let params = one(self.alloc, copied(self.alloc, &layout.encode())?)?;
+        Ok(self.update(Kind::LayoutSet, fid, params))
     }
 
     /// The name of an object stands for the child.

@@ -1,4 +1,6 @@
 pub mod Walks
 pub mod Empties
+pub mod Collected
+pub mod Listings
 pub mod Parting
 pub mod Names

@@ -69,8 +69,8 @@ impl Facts {
     {
         let parts = parts_of(layout);
         let mut entries = EntryList::new(alloc);
-        for index in 0..parts {
-            entries.extend(alloc, self.names(fid, layout, index)?)?;
+        for part in 0..parts {
+            entries.extend(alloc, self.names(fid, layout, part)?)?;
         }
         Ok(entries)
     }

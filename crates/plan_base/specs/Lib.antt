@@ -1,5 +1,6 @@
 pub mod Stops
 pub mod Told
+pub mod Heard
 pub mod Listed
 pub mod Places
 pub mod Asks

@@ -1,0 +1,11 @@
+pub mod Outcomes
+pub mod Texts
+pub mod Params
+pub mod Fitting
+pub mod Placing
+pub mod Settling
+pub mod Moving
+pub mod Migrating
+pub mod Parting
+pub mod Deciding
+pub mod Recording

@@ -1,6 +1,7 @@
 ghost use Rattle.std.specs.Prelude.{◌≡◌, None, IfOk, OnOk};
 ghost use Rattle.std.specs.Option.{option_map};
 ghost use Rattle.plan_base.specs.Stops.{Reaches};
+ghost use Rattle.plan_base.specs.Heard.{IsHeard};
 ghost use Rattle.plan_base.specs.Told.{untold};
 ghost use Rattle.plan_base.specs.Fitting.{fits_asked};
 ghost use Rattle.plan_base.specs.Planners.{reached, step_after, after_fact, IsAsked};
@@ -58,6 +59,8 @@ impl Planner {
         // A need has a spelling, of a read type, and is for a target below 16.
         ensures need { IfOk result IsAsked }
         ensures planner { OnOk result (self.new ≡ after_fact self.old (option_map (λ r. r.now) fact.entry)) }
+        // What was told was heard in results.
+        ensures heard { OnOk result (IsHeard self.new.told) }
     {
         self.state.hear(fact)?;
         let outcome = outcome(&self.state);

@@ -4,3 +4,4 @@ pub mod Collected
 pub mod Listings
 pub mod Parting
 pub mod Names
+pub mod Hearing

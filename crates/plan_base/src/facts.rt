@@ -1,6 +1,7 @@
 ghost use Rattle.std.specs.Prelude.{◌≡◌, ◌++◌, ◌∷◌, [], Some, OnOk};
 ghost use Rattle.std.specs.Option.{option_map};
 ghost use Rattle.std.specs.FinMap as map;
+ghost use Rattle.plan_base.specs.Heard.{IsChild, AreNamed, IsHeard};
 ghost use Rattle.plan_base.specs.Stops.{Reaches};
 ghost use Rattle.plan_base.specs.Told.{untold, entry_in, count_in, value_in, names_in, node_told, entry_told, count_told, value_told, names_told};
 
@@ -114,7 +115,8 @@ impl Facts {
 
     /// Keeps what was told of a node.
     pub(crate) fn tell_node(&mut self, fid: Fid, seen: Option<Seen>) -> Result<(), Memory>
-        ensures { OnOk result (self.new ≡ record self.old { nodes = map.insert self.old.nodes fid seen }) }
+        ensures told { OnOk result (self.new ≡ record self.old { nodes = map.insert self.old.nodes fid seen }) }
+        ensures heard { IsHeard self.old → IsHeard self.new }
     {
         self.nodes.insert(fid, seen)?;
         Ok(())
@@ -122,7 +124,9 @@ impl Facts {
 
     /// Keeps what was told of an entry.
     pub(crate) fn tell_entry(&mut self, fact: EntryFact) -> Result<(), Memory>
-        ensures { OnOk result (self.new ≡ record self.old { entries = self.old.entries ++ fact ∷ [] }) }
+        requires child { IsChild fact.child }
+        ensures told { OnOk result (self.new ≡ record self.old { entries = self.old.entries ++ fact ∷ [] }) }
+        ensures heard { IsHeard self.old → IsHeard self.new }
     {
         self.entries.push(fact)?;
         Ok(())
@@ -130,7 +134,8 @@ impl Facts {
 
     /// Keeps what was told of a part.
     pub(crate) fn tell_count(&mut self, fact: CountFact) -> Result<(), Memory>
-        ensures { OnOk result (self.new ≡ record self.old { counts = self.old.counts ++ fact ∷ [] }) }
+        ensures told { OnOk result (self.new ≡ record self.old { counts = self.old.counts ++ fact ∷ [] }) }
+        ensures heard { IsHeard self.old → IsHeard self.new }
     {
         self.counts.push(fact)?;
         Ok(())
@@ -138,7 +143,8 @@ impl Facts {
 
     /// Keeps what was told of an attribute.
     pub(crate) fn tell_value(&mut self, fact: ValueFact) -> Result<(), Memory>
-        ensures { OnOk result (self.new ≡ record self.old { values = self.old.values ++ fact ∷ [] }) }
+        ensures told { OnOk result (self.new ≡ record self.old { values = self.old.values ++ fact ∷ [] }) }
+        ensures heard { IsHeard self.old → IsHeard self.new }
     {
         self.values.push(fact)?;
         Ok(())
@@ -146,7 +152,9 @@ impl Facts {
 
     /// Keeps what was told of the entries of a part.
     pub(crate) fn tell_names(&mut self, fact: NamesFact) -> Result<(), Memory>
-        ensures { OnOk result (self.new ≡ record self.old { names = self.old.names ++ fact ∷ [] }) }
+        requires named { AreNamed fact }
+        ensures told { OnOk result (self.new ≡ record self.old { names = self.old.names ++ fact ∷ [] }) }
+        ensures heard { IsHeard self.old → IsHeard self.new }
     {
         self.names.push(fact)?;
         Ok(())

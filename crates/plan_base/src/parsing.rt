@@ -1,6 +1,7 @@
 ghost use Rattle.std.specs.Prelude.{◌≡◌, IfOk, IsErrOf};
 ghost use Rattle.byte_grammar.specs.Values.{Gives};
 ghost use Rattle.out_update.specs.Values.{fid_value};
+ghost use Rattle.plan_base.specs.Heard.{IsChild};
 ghost use Rattle.plan_base.specs.Planners.{seen_in, node_in, child_in, entries_in, attribute_in};
 
 use crate::seen::Seen;
@@ -49,7 +50,8 @@ pub(crate) fn node_in(fact: &UpdateResult) -> Option<Seen>
 
 /// What a lookup tells that the name stands for; an error tells of nothing.
 pub(crate) fn child_in(fact: &UpdateResult) -> Option<Fid>
-    ensures { result ≡ child_in fact.now }
+    ensures value { result ≡ child_in fact.now }
+    ensures fid { IsChild result }
 {
     if fact.code != 0 {
         return None;

@@ -4,6 +4,7 @@ ghost use Rattle.out_update.specs.declared.shape.Shape.TheVariants as shape;
 ghost use Rattle.out_update.specs.Types.{is_read, shapes};
 ghost use Rattle.out_update.specs.Spelling.{FitsParams, FitsUpdate};
 ghost use Rattle.tree_model.specs.declared.reply.Reply.TheVariants as replies;
+ghost use Rattle.plan_base.specs.Heard.{IsHeard};
 ghost use Rattle.plan_base.specs.Stops.{Reaches};
 ghost use Rattle.plan_base.specs.Told.{untold};
 ghost use Rattle.plan_base.specs.Planners.{need_of, told_after, decision_of, refusal_of, reached, step_at, asked_at, IsAsked};
@@ -38,6 +39,7 @@ pub struct PlanState {
 }
 
 impl Model for PlanState {
+    ghost use Rattle.plan_base.specs.Heard.{IsHeard};
     ghost use Rattle.plan_base.specs.Planners.{Planning, coded_planning};
 
     ghost Value = { Planning };
@@ -45,6 +47,8 @@ impl Model for PlanState {
     ghost coded = { coded_planning };
 
     ghost view = { λ p. record { targets = p.cluster; op = p.op; batch = p.batch; told = p.facts; asked = p.asked } };
+
+    ghost invariant = { λ p. IsHeard p.facts };
 }
 
 impl PlanState {
@@ -144,6 +148,8 @@ impl PlanState {
         ensures step { IfOk result (λ s. s ≡ step_at self.old.targets self.old.op (reached self.old.targets self.old.batch self.old.op self.old.told)) }
         // A need has a spelling, is a question, and is for a target that there may be.
         ensures need { IfOk result IsAsked }
+        // What was told was heard in results.
+        ensures heard { IsHeard self.new.told }
         ensures state { OnOk result (self.new ≡ record self.old { asked = asked_at (reached self.old.targets self.old.batch self.old.op self.old.told) }) }
     {
         match outcome {

@@ -3,7 +3,7 @@ ghost use Rattle.out_update.specs.Spelling.{FitsUpdate};
 
 use byte_grammar::{padding_of, put16, put32, put64};
 use fid_space::{Bytes, Cluster, Fid};
-use object_store::{Body, ObjectKind, Objects};
+use object_store::Objects;
 use out_update::{UpdateRequest, read_pieces};
 use std::alloc::{AllocError as Memory, Global};
 use std::test::Fail;
@@ -116,12 +116,12 @@ fn run(
 }
 
 /// The code and the bytes of a question's result.
-fn result_of(objects: &Objects, asks: &UpdateRequest) -> Result<(u32, Bytes), Fail>
+fn result_of(alloc: Global, objects: &Objects, asks: &UpdateRequest) -> Result<(u32, Bytes), Fail>
     requires { All FitsUpdate asks.now }
 {
     match asks.get(0) {
         Some(ask) => {
-            let result = objects.read(objects.alloc(), ask)?;
+            let result = objects.read(alloc, ask)?;
             Ok((result.code, result.body))
         }
         None => Err("an update".into()),
@@ -173,25 +173,45 @@ fn some_objects(alloc: Global) -> Result<Objects, Fail> {
     Ok(objects)
 }
 
-/// Kind, mode, owner, group and links; the layout; the FID's number and the index; entries and attributes.
-fn described(alloc: Global, objects: &Objects, oid: u32) -> Result<String, Fail> {
-    let Some(object) = objects.get(fid(oid)) else {
-        return Ok(format!(in alloc; "none")?);
-    };
-    let b: Body = *object.body();
-    let kind = match b.kind {
-        ObjectKind::File => "file",
-        ObjectKind::Directory => "dir",
-        ObjectKind::Stripe => "stripe",
-    };
-    let front = format!(in alloc; "{kind} {} {} {} {}", b.mode, b.uid, b.gid, b.links)?;
-    let layout = format!(in alloc;
-        "{} {} {}",
-        b.layout.count, b.layout.start, b.layout.generation
-    )?;
-    let (entries, attributes) = (object.entries().len(), object.attributes().len());
-    Ok(format!(in alloc;
-        "{front}, {layout}, {} {}, {entries} {attributes}",
-        b.fid.oid, b.index
-    )?)
+/// What the questions for attributes and for the count of entries tell of an object: code and bytes of each.
+fn told(alloc: Global, objects: &Objects, oid: u32) -> Result<Vec<u8>, Fail> {
+    let (code, node) = result_of(alloc, objects, &request(alloc, 6, oid, &[])?)?;
+    let (counted, entries) = result_of(alloc, objects, &request(alloc, 35, oid, &[])?)?;
+    let mut out = numbers(alloc, &[code, counted])?;
+    out.extend_from_slice(node.bytes())?;
+    out.extend_from_slice(entries.bytes())?;
+    Ok(out)
+}
+
+/// What they tell of a file with so many links and attributes.
+fn file(alloc: Global, front: [u32; 5], attributes: u64) -> Result<Vec<u8>, Fail> {
+    let mut out = numbers(alloc, &[0, 20])?;
+    out.extend_from_slice(&body(alloc, front, PLAIN, 0, 0)?)?;
+    put64(&mut out, attributes)?;
+    Ok(out)
+}
+
+/// What they tell of a directory with so many attributes and entries.
+fn directory(
+    alloc: Global,
+    front: [u32; 5],
+    layout: [u8; 8],
+    parent: u32,
+    counts: [u32; 2],
+) -> Result<Vec<u8>, Fail> {
+    let mut out = numbers(alloc, &[0, 0])?;
+    out.extend_from_slice(&body(alloc, front, layout, parent, 0)?)?;
+    put64(&mut out, u64::from(counts[0]))?;
+    put32(&mut out, counts[1])?;
+    Ok(out)
+}
+
+/// What they tell of a stripe with so many entries.
+fn stripe(alloc: Global, entries: u32) -> Result<Vec<u8>, Fail> {
+    numbers(alloc, &[2, 0, entries])
+}
+
+/// What they tell where there is no object.
+fn nothing(alloc: Global) -> Result<Vec<u8>, Fail> {
+    numbers(alloc, &[2, 20])
 }

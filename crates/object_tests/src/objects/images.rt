@@ -1,5 +1,5 @@
 use super::*;
-use object_store::ImageFault;
+use object_store::{Body, ImageFault};
 use std::process::Abort;
 
 /// An image begins with its count and a zero.

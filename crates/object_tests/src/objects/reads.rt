@@ -7,6 +7,7 @@ use std::process::Abort;
 /// The result of a question, beside the code and the bytes that are wanted.
 fn check(
     rt: &impl Abort,
+    alloc: Global,
     objects: &Objects,
     ask: &UpdateRequest,
     code: u32,
@@ -14,7 +15,7 @@ fn check(
 ) -> Result<(), Fail>
     requires { All FitsUpdate ask.now }
 {
-    let (got, body) = result_of(objects, ask)?;
+    let (got, body) = result_of(alloc, objects, ask)?;
     assert_eq!(rt; got, code);
     assert_eq!(rt; body.bytes(), bytes);
     Ok(())
@@ -28,10 +29,17 @@ fn reads_nodes(rt: HostRuntime) -> Result<(), Fail> {
     put64(&mut file, 1)?;
     let mut directory = body(alloc, [2, 0o755, 0, 0, 2], PLAIN, 7, 0)?;
     put64(&mut directory, 1)?;
-    check(&rt, &objects, &request(alloc, 6, 1, &[])?, 0, &file)?;
-    check(&rt, &objects, &request(alloc, 6, 2, &[])?, 0, &directory)?;
-    check(&rt, &objects, &request(alloc, 6, 3, &[])?, 2, &[])?;
-    check(&rt, &objects, &request(alloc, 6, 8, &[])?, 2, &[])
+    check(&rt, alloc, &objects, &request(alloc, 6, 1, &[])?, 0, &file)?;
+    check(
+        &rt,
+        alloc,
+        &objects,
+        &request(alloc, 6, 2, &[])?,
+        0,
+        &directory,
+    )?;
+    check(&rt, alloc, &objects, &request(alloc, 6, 3, &[])?, 2, &[])?;
+    check(&rt, alloc, &objects, &request(alloc, 6, 8, &[])?, 2, &[])
 }
 
 #[test]
@@ -39,11 +47,46 @@ fn looks_names_up(rt: HostRuntime) -> Result<(), Fail> {
     let alloc = rt.alloc();
     let objects = some_objects(alloc)?;
     let child = fid_bytes(alloc, 9)?;
-    check(&rt, &objects, &request(alloc, 9, 2, &[b"a"])?, 0, &child)?;
-    check(&rt, &objects, &request(alloc, 9, 3, &[b"a"])?, 0, &child)?;
-    check(&rt, &objects, &request(alloc, 9, 2, &[b"b"])?, 2, &[])?;
-    check(&rt, &objects, &request(alloc, 9, 1, &[b"a"])?, 20, &[])?;
-    check(&rt, &objects, &request(alloc, 9, 8, &[b"a"])?, 20, &[])
+    check(
+        &rt,
+        alloc,
+        &objects,
+        &request(alloc, 9, 2, &[b"a"])?,
+        0,
+        &child,
+    )?;
+    check(
+        &rt,
+        alloc,
+        &objects,
+        &request(alloc, 9, 3, &[b"a"])?,
+        0,
+        &child,
+    )?;
+    check(
+        &rt,
+        alloc,
+        &objects,
+        &request(alloc, 9, 2, &[b"b"])?,
+        2,
+        &[],
+    )?;
+    check(
+        &rt,
+        alloc,
+        &objects,
+        &request(alloc, 9, 1, &[b"a"])?,
+        20,
+        &[],
+    )?;
+    check(
+        &rt,
+        alloc,
+        &objects,
+        &request(alloc, 9, 8, &[b"a"])?,
+        20,
+        &[],
+    )
 }
 
 #[test]
@@ -53,17 +96,25 @@ fn lists_and_counts(rt: HostRuntime) -> Result<(), Fail> {
     let mut list = Vec::new(alloc);
     list.extend_from_slice(&[1, 0, b'a'])?;
     put_fid(&mut list, fid(9))?;
-    check(&rt, &objects, &request(alloc, 34, 2, &[])?, 0, &list)?;
-    check(&rt, &objects, &request(alloc, 34, 8, &[])?, 20, &[])?;
-    check(&rt, &objects, &request(alloc, 8, 2, &[b"x"])?, 0, b"v")?;
+    check(&rt, alloc, &objects, &request(alloc, 34, 2, &[])?, 0, &list)?;
+    check(&rt, alloc, &objects, &request(alloc, 34, 8, &[])?, 20, &[])?;
     check(
         &rt,
+        alloc,
+        &objects,
+        &request(alloc, 8, 2, &[b"x"])?,
+        0,
+        b"v",
+    )?;
+    check(
+        &rt,
+        alloc,
         &objects,
         &request(alloc, 35, 2, &[])?,
         0,
         &[1, 0, 0, 0],
     )?;
-    check(&rt, &objects, &request(alloc, 35, 8, &[])?, 20, &[])
+    check(&rt, alloc, &objects, &request(alloc, 35, 8, &[])?, 20, &[])
 }
 
 #[test]

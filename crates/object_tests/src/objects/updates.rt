@@ -7,124 +7,90 @@ fn check(
     alloc: Global,
     kind: u16,
     params: &[&[u8]],
-    wants: [&str; 3],
+    wants: [&[u8]; 3],
 ) -> Result<(), Fail> {
     let mut objects = some_objects(alloc)?;
     for (i, want) in wants.iter().enumerate() {
         let oid = (i as u32).wrapping_add(1);
         run(alloc, &mut objects, kind, oid, params)?;
         assert_eq!(rt;
-            described(alloc, &objects, oid)?.as_str(),
+            told(alloc, &objects, oid)?.as_slice(),
             *want,
             "{kind} {oid}"
         );
     }
     run(alloc, &mut objects, kind, 8, params)?;
-    assert_eq!(rt; described(alloc, &objects, 8)?.as_str(), "none", "{kind}");
+    assert_eq!(rt; told(alloc, &objects, 8)?, nothing(alloc)?, "{kind}");
     Ok(())
 }
 
-const FILE: &str = "file 420 0 0 1, 0 0 0, 0 0, 0 1";
-
-const DIR: &str = "dir 493 0 0 2, 0 0 0, 7 0, 1 1";
-
-const STRIPE: &str = "stripe 0 0 0 0, 0 0 0, 2 5, 1 0";
+/// A file, a directory and a stripe as they are before.
+fn as_they_are(alloc: Global) -> Result<[Vec<u8>; 3], Fail> {
+    let one = file(alloc, [1, 0o644, 0, 0, 1], 1)?;
+    let two = directory(alloc, [2, 0o755, 0, 0, 2], PLAIN, 7, [1, 1])?;
+    Ok([one, two, stripe(alloc, 1)?])
+}
 
 #[test]
 fn changes_links(rt: HostRuntime) -> Result<(), Fail> {
     let alloc = rt.alloc();
-    check(&rt, alloc, 2, &[], ["none", "none", "none"])?;
-    check(
-        &rt,
-        alloc,
-        3,
-        &[],
-        ["file 420 0 0 2, 0 0 0, 0 0, 0 1", DIR, STRIPE],
-    )?;
-    check(&rt, alloc, 4, &[], ["none", DIR, STRIPE])
+    let [_, dir, part] = as_they_are(alloc)?;
+    let none = nothing(alloc)?;
+    let linked = file(alloc, [1, 0o644, 0, 0, 2], 1)?;
+    check(&rt, alloc, 2, &[], [&none, &none, &none])?;
+    check(&rt, alloc, 3, &[], [&linked, &dir, &part])?;
+    check(&rt, alloc, 4, &[], [&none, &dir, &part])
 }
 
 #[test]
 fn changes_attributes(rt: HostRuntime) -> Result<(), Fail> {
     let alloc = rt.alloc();
     let set = numbers(alloc, &[0o7777, 5, 6])?;
-    check(
-        &rt,
-        alloc,
-        5,
-        &[set.as_slice()],
-        [
-            "file 4095 5 6 1, 0 0 0, 0 0, 0 1",
-            "dir 4095 5 6 2, 0 0 0, 7 0, 1 1",
-            STRIPE,
-        ],
-    )?;
-    check(
-        &rt,
-        alloc,
-        13,
-        &[b"x"],
-        [
-            "file 420 0 0 1, 0 0 0, 0 0, 0 0",
-            "dir 493 0 0 2, 0 0 0, 7 0, 1 0",
-            STRIPE,
-        ],
-    )
+    let part = stripe(alloc, 1)?;
+    let one = file(alloc, [1, 0o7777, 5, 6, 1], 1)?;
+    let two = directory(alloc, [2, 0o7777, 5, 6, 2], PLAIN, 7, [1, 1])?;
+    check(&rt, alloc, 5, &[set.as_slice()], [&one, &two, &part])?;
+    let one = file(alloc, [1, 0o644, 0, 0, 1], 0)?;
+    let two = directory(alloc, [2, 0o755, 0, 0, 2], PLAIN, 7, [0, 1])?;
+    check(&rt, alloc, 13, &[b"x"], [&one, &two, &part])
 }
 
 #[test]
 fn changes_entries(rt: HostRuntime) -> Result<(), Fail> {
     let alloc = rt.alloc();
     let child = fid_bytes(alloc, 4)?;
+    let [one, _, _] = as_they_are(alloc)?;
+    let two = directory(alloc, [2, 0o755, 0, 0, 2], PLAIN, 7, [1, 2])?;
+    let more = stripe(alloc, 2)?;
     check(
         &rt,
         alloc,
         10,
         &[b"b", child.as_slice()],
-        [
-            "file 420 0 0 1, 0 0 0, 0 0, 1 1",
-            "dir 493 0 0 2, 0 0 0, 7 0, 2 1",
-            "stripe 0 0 0 0, 0 0 0, 2 5, 2 0",
-        ],
+        [&one, &two, &more],
     )?;
-    check(
-        &rt,
-        alloc,
-        11,
-        &[b"a"],
-        [
-            FILE,
-            "dir 493 0 0 2, 0 0 0, 7 0, 0 1",
-            "stripe 0 0 0 0, 0 0 0, 2 5, 0 0",
-        ],
-    )
+    let two = directory(alloc, [2, 0o755, 0, 0, 2], PLAIN, 7, [1, 0])?;
+    let less = stripe(alloc, 0)?;
+    check(&rt, alloc, 11, &[b"a"], [&one, &two, &less])
 }
 
 #[test]
 fn changes_directories(rt: HostRuntime) -> Result<(), Fail> {
     let alloc = rt.alloc();
-    check(
-        &rt,
-        alloc,
-        32,
-        &[&[4, 1, 0, 0, 2, 0, 0, 0]],
-        [FILE, "dir 493 0 0 2, 4 1 2, 7 0, 1 1", STRIPE],
-    )?;
+    let [one, two, part] = as_they_are(alloc)?;
+    let layout = [4, 1, 0, 0, 2, 0, 0, 0];
+    let striped = directory(alloc, [2, 0o755, 0, 0, 2], layout, 7, [1, 1])?;
+    check(&rt, alloc, 32, &[&layout], [&one, &striped, &part])?;
     check(
         &rt,
         alloc,
         32,
         &[&[17, 0, 0, 0, 0, 0, 0, 0]],
-        [FILE, DIR, STRIPE],
+        [&one, &two, &part],
     )?;
     let parent = fid_bytes(alloc, 6)?;
-    check(
-        &rt,
-        alloc,
-        33,
-        &[parent.as_slice()],
-        [FILE, "dir 493 0 0 2, 0 0 0, 6 0, 1 1", STRIPE],
-    )
+    let moved = directory(alloc, [2, 0o755, 0, 0, 2], PLAIN, 6, [1, 1])?;
+    check(&rt, alloc, 33, &[parent.as_slice()], [&one, &moved, &part])
 }
 
 #[test]

@@ -61,7 +61,7 @@ below x (suc n) s g =
     let m : fnv1a_64 x % suc n < suc n = omega arith in
     subst (λ b. fnv1a_64 x % suc n < (if b then 1 else suc n)) (sym (eqb-suc-zero n)) m
 
-below_parts : (l : LaidOut) (x : List ℕ) → part_of_name l x < parts_of l
+pub below_parts : (l : LaidOut) (x : List ℕ) → part_of_name l x < parts_of l
 below_parts l x = below x l.count l.start l.generation
 
 by_entries : (layout : Layout) (es : List Entry) → none_in (λ e. part_of_name (laid layout) e.0) es 0 (parts_of (laid layout)) ≡ (length es == 0)

@@ -2,5 +2,8 @@ pub mod Counting
 pub mod Reaching
 pub mod Deciding
 pub mod Renaming
+pub mod Listing
+pub mod Migrating
 pub mod Telling
 pub mod Readback
+pub mod ListedAgain

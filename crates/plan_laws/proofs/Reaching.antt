@@ -16,10 +16,10 @@ use Rattle.plan_base.specs.declared.question.Question.TheVariants as question
 use Rattle.plan_base.specs.declared.question.Stop.{Stop}
 use Rattle.plan_base.specs.declared.question.Stop.TheVariants as stop
 use Rattle.plan_base.specs.Stops.{◌>>=◌, unless}
-use Rattle.plan_base.specs.Told.{Told, known, node_told, count_told, entry_in, count_in, value_in}
+use Rattle.plan_base.specs.Told.{Told, known, node_told, count_told, names_told, entry_in, count_in, value_in, names_in}
 use Rattle.plan_base.specs.Places.{parts_of}
-use Rattle.plan_base.specs.Asks.{Asks, AskDirectory, AskNode, AskValue, AskEntry, AskEmpty, AskWalk, Refuse, Settle, directory_seen, parent_seen, none_told, walk_told, then_stop, answer}
-use Rattle.plan_laws.specs.Truth.{kept, seen_of, value_of, count_of, IsTrueOf, none_of, walk_over, over, part_questions, walk_questions, if_ok, if_none, questions, is_known, first_open, or_outcome, IsLaid}
+use Rattle.plan_base.specs.Asks.{Asks, AskDirectory, AskNode, AskValue, AskEntry, AskEmpty, AskNames, AskWalk, Refuse, Settle, directory_seen, parent_seen, none_told, names_from, walk_told, then_stop, answer}
+use Rattle.plan_laws.specs.Truth.{kept, seen_of, value_of, count_of, names_at, IsTrueOf, none_of, all_names_at, walk_over, over, part_questions, name_questions, walk_questions, if_ok, if_none, questions, is_known, first_open, or_outcome, IsLaid}
 
 -- a question with a true answer, and what comes behind it
 asked_first : {A : Type 0} → (t : Told) (q : Question) (o : Option A) (truth : A) (go : A → Result Outcome Stop) (qs : List Question) (out : Result Outcome Stop)
@@ -45,6 +45,19 @@ emptied t d layout names i (suc left) go qs out h e =
     (λ n. (none_told t d layout (suc i) left >>= (λ rest. Ok ((n == 0) && rest))) >>= go) (part_questions d layout (suc i) left ++ qs) out (h i)
     (again (none_told t d layout (suc i) left) (λ rest. Ok ((count_of layout names i == 0) && rest)) go
     ∙ emptied t d layout names (suc i) left (λ rest. go ((count_of layout names i == 0) && rest)) qs out h e)
+
+collected : (t : Told) (d : Fid) (layout : Layout) (names : Names) (i left : ℕ) (go : List (List ℕ × Fid) → Result Outcome Stop) (qs : List Question) (out : Result Outcome Stop)
+    → ((j : ℕ) (es : List (List ℕ × Fid)) → names_in t.names d j ≡ Some es → es ≡ names_at layout names j)
+    → go (all_names_at layout names i left) ≡ or_outcome (first_open t qs) out
+    → (names_from t d layout i left >>= go) ≡ or_outcome (first_open t (name_questions d layout i left ++ qs)) out
+unfolding names_from all_names_at name_questions
+collected t d layout names i zero go qs out h e = e
+collected t d layout names i (suc left) go qs out h e =
+    again (names_told t d layout i) (λ es. names_from t d layout (suc i) left >>= (λ more. Ok (es ++ more))) go
+    ∙ asked_first t (question.Names d layout i) (names_in t.names d i) (names_at layout names i)
+    (λ es. (names_from t d layout (suc i) left >>= (λ more. Ok (es ++ more))) >>= go) (name_questions d layout (suc i) left ++ qs) out (h i)
+    (again (names_from t d layout (suc i) left) (λ more. Ok (names_at layout names i ++ more)) go
+    ∙ collected t d layout names (suc i) left (λ more. go (names_at layout names i ++ more)) qs out h e)
 
 all_behind : (P : Question → Type 0) (xs ys : List Question) → AllByRecursion P (xs ++ ys) → AllByRecursion P ys
 all_behind P [] ys h = h
@@ -99,6 +112,11 @@ unfolding part_questions
 laid_parts l d layout zero qs h = h.0.0
 laid_parts l d layout (suc n) qs h = (subst (λ b. AllByRecursion (IsLaid l) (part_questions d layout 0 (if b then 1 else suc n) ++ qs)) (eqb-suc-zero n) h).0.0
 
+laid_names : (l : Laid) (d : Fid) (layout : Layout) (n : ℕ) (qs : List Question) → AllByRecursion (IsLaid l) (name_questions d layout 0 (if n == 0 then 1 else n) ++ qs) → layout ≡ kept (layout_at l d)
+unfolding name_questions
+laid_names l d layout zero qs h = h.0.0
+laid_names l d layout (suc n) qs h = (subst (λ b. AllByRecursion (IsLaid l) (name_questions d layout 0 (if b then 1 else suc n) ++ qs)) (eqb-suc-zero n) h).0.0
+
 pub reaching : (l : Laid) (t : Told) → IsTrueOf l t → (a : Asks) → AllByRecursion (IsLaid l) (questions l a)
     → answer t a ≡ or_outcome (first_open t (questions l a)) (over l a)
 reaching l t h (AskDirectory f next) k =
@@ -129,6 +147,13 @@ reaching l t h (AskEmpty d layout next) k =
   where
     counted : (j n : ℕ) → count_in t.counts d j ≡ Some n → n ≡ count_of layout (names_of l.tree d) j
     counted j n e = h.counts d j n e ∙ ap (λ x. count_of x (names_of l.tree d) j) (sym (laid_parts l d layout layout.count _ k))
+reaching l t h (AskNames d layout next) k =
+    collected t d layout (names_of l.tree d) 0 (parts_of (laid layout)) (λ es. answer t (next es)) (questions l (next (all_names_at layout (names_of l.tree d) 0 (parts_of (laid layout)))))
+    (over l (next (all_names_at layout (names_of l.tree d) 0 (parts_of (laid layout))))) listed
+    (reaching l t h (next (all_names_at layout (names_of l.tree d) 0 (parts_of (laid layout)))) (all_behind (IsLaid l) (name_questions d layout 0 (parts_of (laid layout))) _ k))
+  where
+    listed : (j : ℕ) (es : List (List ℕ × Fid)) → names_in t.names d j ≡ Some es → es ≡ names_at layout (names_of l.tree d) j
+    listed j es e = h.names d j es e ∙ ap (λ x. names_at x (names_of l.tree d) j) (sym (laid_names l d layout layout.count _ k))
 reaching l t h (AskWalk m from next) k = walked l t h m 1023 from (answer t next) (questions l next) (over l next) (reaching l t h next) k
 reaching l t h (Refuse e) k = refl
 reaching l t h (Settle o) k = refl

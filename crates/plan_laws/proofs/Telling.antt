@@ -14,11 +14,13 @@ use Rattle.plan_base.specs.declared.seen.Seen.{Seen}
 use Rattle.plan_base.specs.declared.seen.EntryFact.{EntryFact}
 use Rattle.plan_base.specs.declared.seen.CountFact.{CountFact}
 use Rattle.plan_base.specs.declared.seen.ValueFact.{ValueFact}
+use Rattle.plan_base.specs.declared.seen.NamesFact.{NamesFact}
 use Rattle.plan_base.specs.declared.question.Question.{Question}
 use Rattle.plan_base.specs.declared.question.Question.TheVariants as question
-use Rattle.plan_base.specs.Told.{Told, entry_in, count_in, value_in}
+use Rattle.plan_base.specs.Told.{Told, entry_in, count_in, value_in, names_in}
+use Rattle.plan_base.specs.Listed.{listed_in}
 use Rattle.plan_base.specs.Planners.{node_in, child_in, entries_in, attribute_in, told_more}
-use Rattle.plan_laws.specs.Truth.{kept, seen_of, value_of, count_of, IsTrueOf, TellsTruth}
+use Rattle.plan_laws.specs.Truth.{kept, seen_of, value_of, count_of, names_at, IsTrueOf, TellsTruth}
 
 both_true : (a b : Bool) → (a && b) ≡ true → (a ≡ true) × (b ≡ true)
 both_true true b h = (refl, h)
@@ -92,13 +94,31 @@ value_more (g ∷ es) e f x v truth h k = first (same_fid g.fid f && same_name g
     first true h more p = h v p
     first false h more p = more h p
 
+-- the names of a part more
+names_more : (es : List NamesFact) (e : NamesFact) (d : Fid) (i : ℕ) (n truth : List (List ℕ × Fid)) → ((n : List (List ℕ × Fid)) → names_in es d i ≡ Some n → n ≡ truth)
+    → (e.directory ≡ d → e.index ≡ i → e.entries ≡ truth) → names_in (es ++ e ∷ []) d i ≡ Some n → n ≡ truth
+names_more [] e d i n truth h k = last (same_fid e.directory d && (e.index == i)) refl
+  where
+    last : (b : Bool) → (same_fid e.directory d && (e.index == i)) ≡ b → (if b then Some e.entries else None) ≡ Some n → n ≡ truth
+    last true q p = let two = both_true (same_fid e.directory d) (e.index == i) q in
+        sym (some_same e.entries n p) ∙ k (fids_same e.directory d two.0) (eqb-true e.index i two.1)
+    last false q p = cc
+names_more (f ∷ es) e d i n truth h k = first (same_fid f.directory d && (f.index == i)) h (λ g. names_more es e d i n truth g k)
+  where
+    first : (b : Bool) → ((n : List (List ℕ × Fid)) → (if b then Some f.entries else names_in es d i) ≡ Some n → n ≡ truth)
+        → (((n : List (List ℕ × Fid)) → names_in es d i ≡ Some n → n ≡ truth) → names_in (es ++ e ∷ []) d i ≡ Some n → n ≡ truth)
+        → (if b then Some f.entries else names_in (es ++ e ∷ []) d i) ≡ Some n → n ≡ truth
+    first true h more p = h n p
+    first false h more p = more h p
+
 pub still_true : (l : Laid) (t : Told) (q : Question) (r : UpdateResult) → IsTrueOf l t → TellsTruth l q r → IsTrueOf l (told_more t q r)
-still_true l t (question.Node f) r h k = record { nodes = λ g s p. node_more l t f g (node_in r) s (h.nodes g) k p; entries = h.entries; counts = h.counts; values = h.values }
+still_true l t (question.Node f) r h k = record { nodes = λ g s p. node_more l t f g (node_in r) s (h.nodes g) k p; entries = h.entries; counts = h.counts; names = h.names; values = h.values }
 still_true l t (question.Entry d layout x) r h k = record {
   nodes = h.nodes;
   entries = λ e y c p. entry_more t.entries (record { directory = d; name = x; child = child_in r }) e y c (named l.tree e y) (h.entries e y)
       (λ (u : d ≡ e) (v : x ≡ y). k ∙ (λ i. named l.tree (u i) (v i))) p;
   counts = h.counts;
+  names = h.names;
   values = h.values;
 }
 still_true l t (question.Count d layout i) r h k = record {
@@ -106,12 +126,22 @@ still_true l t (question.Count d layout i) r h k = record {
   entries = h.entries;
   counts = λ e j n p. count_more t.counts (record { directory = d; index = i; entries = entries_in r }) e j n (count_of (kept (layout_at l e)) (names_of l.tree e) j) (h.counts e j)
       (λ (u : d ≡ e) (v : i ≡ j). k ∙ (λ s. count_of (kept (layout_at l (u s))) (names_of l.tree (u s)) (v s))) p;
+  names = h.names;
   values = h.values;
 }
 still_true l t (question.Value f x) r h k = record {
   nodes = h.nodes;
   entries = h.entries;
   counts = h.counts;
+  names = h.names;
   values = λ g y v p. value_more t.values (record { fid = f; name = x; value = attribute_in r }) g y v (value_of l g y) (h.values g y)
       (λ (u : f ≡ g) (w : x ≡ y). k ∙ (λ s. value_of l (u s) (w s))) p;
+}
+still_true l t (question.Names d layout i) r h k = record {
+  nodes = h.nodes;
+  entries = h.entries;
+  counts = h.counts;
+  names = λ e j n p. names_more t.names (record { directory = d; index = i; entries = listed_in r }) e j n (names_at (kept (layout_at l e)) (names_of l.tree e) j) (h.names e j)
+      (λ (u : d ≡ e) (v : i ≡ j). k ∙ (λ s. names_at (kept (layout_at l (u s))) (names_of l.tree (u s)) (v s))) p;
+  values = h.values;
 }

@@ -1,5 +1,5 @@
 -- What the answers are over a tree with layouts, and how far a planner comes with true answers.
-use Rattle.std.specs.Prelude.{◌≡◌, ◌<◌, ℕ, zero, suc, ◌+◌, ◌==◌, ◌&&◌, Bool, true, false, Option, Some, None, Result, Ok, Err, if◌then◌else◌, is_some, List, [], ◌∷◌, ◌++◌, length, filter}
+use Rattle.std.specs.Prelude.{◌≡◌, ◌<◌, ℕ, zero, suc, ◌+◌, ◌==◌, ◌&&◌, Bool, true, false, Option, Some, None, Result, Ok, Err, if◌then◌else◌, is_some, List, [], ◌∷◌, ◌++◌, length, filter, take}
 use Rattle.std.specs.List.{flat_map, AllByRecursion}
 use Rattle.std.specs.Option.{option_map}
 use Rattle.std.specs.FinMap.{get, len, entries}
@@ -27,11 +27,12 @@ use Rattle.plan_base.specs.declared.question.Question.TheVariants as question
 use Rattle.plan_base.specs.declared.question.Stop.{Stop}
 use Rattle.plan_base.specs.declared.question.Stop.TheVariants as stop
 use Rattle.plan_base.specs.Stops.{◌>>=◌, unless}
-use Rattle.plan_base.specs.Told.{Told, entry_in, count_in, value_in}
+use Rattle.plan_base.specs.Told.{Told, entry_in, count_in, value_in, names_in}
 use Rattle.plan_base.specs.Planners.{node_in, child_in, entries_in, attribute_in}
+use Rattle.plan_base.specs.Listed.{listed_in}
 use Rattle.out_update.specs.declared.result.UpdateResult.{UpdateResult}
 use Rattle.plan_base.specs.Places.{parts_of}
-use Rattle.plan_base.specs.Asks.{Asks, AskDirectory, AskNode, AskValue, AskEntry, AskEmpty, AskWalk, Refuse, Settle, directory_seen, parent_seen}
+use Rattle.plan_base.specs.Asks.{Asks, AskDirectory, AskNode, AskValue, AskEntry, AskEmpty, AskNames, AskWalk, Refuse, Settle, directory_seen, parent_seen}
 
 -- ---- the true answers
 
@@ -63,11 +64,16 @@ value_of l fid name = value_at (get l.tree.nodes fid) name
 abbrev pub count_of : Layout → Names → ℕ → ℕ
 count_of layout names index = length (filter (λ e. part_of_name (laid layout) e.0 == index) (entries names))
 
+-- the first 33 of the names of a part, where a directory has this layout
+abbrev pub names_at : Layout → Names → ℕ → List (List ℕ × Fid)
+names_at layout names index = take 33 (filter (λ e. part_of_name (laid layout) e.0 == index) (entries names))
+
 -- each answer that was told is true
 pub record IsTrueOf (l : Laid) (t : Told) : Type 0 where
   pub nodes : (f : Fid) (s : Option Seen) → get t.nodes f ≡ Some s → s ≡ seen_of l f
   pub entries : (d : Fid) (x : List ℕ) (c : Option Fid) → entry_in t.entries d x ≡ Some c → c ≡ named l.tree d x
   pub counts : (d : Fid) (i n : ℕ) → count_in t.counts d i ≡ Some n → n ≡ count_of (kept (layout_at l d)) (names_of l.tree d) i
+  pub names : (d : Fid) (i : ℕ) (es : List (List ℕ × Fid)) → names_in t.names d i ≡ Some es → es ≡ names_at (kept (layout_at l d)) (names_of l.tree d) i
   pub values : (f : Fid) (x : List ℕ) (v : Option (List ℕ)) → value_in t.values f x ≡ Some v → v ≡ value_of l f x
 
 -- ---- what the checks come to with all answers, and the questions up to the deciding one
@@ -76,6 +82,11 @@ pub record IsTrueOf (l : Laid) (t : Told) : Type 0 where
 unfoldable pub none_of : Layout → Names → ℕ → ℕ → Bool
 none_of layout names index zero = true
 none_of layout names index (suc left) = (count_of layout names index == 0) && none_of layout names (suc index) left
+
+-- the names of so many parts from one on
+unfoldable pub all_names_at : Layout → Names → ℕ → ℕ → List (List ℕ × Fid)
+all_names_at layout names index zero = []
+all_names_at layout names index (suc left) = names_at layout names index ++ all_names_at layout names (suc index) left
 
 unfoldable pub walk_over : Laid → Fid → ℕ → Fid → Option Stop
 walk_over l moved zero at =
@@ -90,6 +101,7 @@ over l (AskNode fid next) = over l (next (seen_of l fid))
 over l (AskValue fid name next) = over l (next (value_of l fid name))
 over l (AskEntry directory layout name next) = over l (next (named l.tree directory name))
 over l (AskEmpty directory layout next) = over l (next (none_of layout (names_of l.tree directory) 0 (parts_of (laid layout))))
+over l (AskNames directory layout next) = over l (next (all_names_at layout (names_of l.tree directory) 0 (parts_of (laid layout))))
 over l (AskWalk moved from next) = unless (walk_over l moved 1023 from) (over l next)
 over l (Refuse errno) = Err (stop.Refused errno)
 over l (Settle outcome) = Ok outcome
@@ -98,6 +110,10 @@ over l (Settle outcome) = Ok outcome
 unfoldable pub part_questions : Fid → Layout → ℕ → ℕ → List Question
 part_questions directory layout index zero = []
 part_questions directory layout index (suc left) = question.Count directory layout index ∷ part_questions directory layout (suc index) left
+
+unfoldable pub name_questions : Fid → Layout → ℕ → ℕ → List Question
+name_questions directory layout index zero = []
+name_questions directory layout index (suc left) = question.Names directory layout index ∷ name_questions directory layout (suc index) left
 
 unfoldable pub walk_questions : Laid → Fid → ℕ → Fid → List Question
 walk_questions l moved zero at = []
@@ -121,6 +137,8 @@ questions l (AskValue fid name next) = question.Value fid name ∷ questions l (
 questions l (AskEntry directory layout name next) = question.Entry directory layout name ∷ questions l (next (named l.tree directory name))
 questions l (AskEmpty directory layout next) =
     part_questions directory layout 0 (parts_of (laid layout)) ++ questions l (next (none_of layout (names_of l.tree directory) 0 (parts_of (laid layout))))
+questions l (AskNames directory layout next) =
+    name_questions directory layout 0 (parts_of (laid layout)) ++ questions l (next (all_names_at layout (names_of l.tree directory) 0 (parts_of (laid layout))))
 questions l (AskWalk moved from next) = walk_questions l moved 1023 from ++ if_none (walk_over l moved 1023 from) (questions l next)
 questions l (Refuse errno) = []
 questions l (Settle outcome) = []
@@ -131,6 +149,7 @@ is_known t (question.Node fid) = is_some (get t.nodes fid)
 is_known t (question.Entry directory layout name) = is_some (entry_in t.entries directory name)
 is_known t (question.Count directory layout index) = is_some (count_in t.counts directory index)
 is_known t (question.Value fid name) = is_some (value_in t.values fid name)
+is_known t (question.Names directory layout index) = is_some (names_in t.names directory index)
 
 abbrev pub first_open : Told → List Question → Option Question
 first_open t [] = None
@@ -151,6 +170,7 @@ keys_of_question (question.Node fid) = NodeKey fid ∷ []
 keys_of_question (question.Entry directory layout name) = NameKey directory name ∷ []
 keys_of_question (question.Count directory layout index) = first_key directory index
 keys_of_question (question.Value fid name) = []
+keys_of_question (question.Names directory layout index) = first_key directory index
 
 abbrev pub keys_asked : List Question → List Key
 keys_asked qs = flat_map keys_of_question qs
@@ -161,6 +181,7 @@ IsLaid l (question.Node fid) = Unit {0}
 IsLaid l (question.Value fid name) = Unit {0}
 IsLaid l (question.Entry directory layout name) = (layout ≡ kept (layout_at l directory)) × (is_dir (get l.tree.nodes directory) ≡ true)
 IsLaid l (question.Count directory layout index) = (layout ≡ kept (layout_at l directory)) × (is_dir (get l.tree.nodes directory) ≡ true) × (index < parts_of (laid layout))
+IsLaid l (question.Names directory layout index) = (layout ≡ kept (layout_at l directory)) × (is_dir (get l.tree.nodes directory) ≡ true) × (index < parts_of (laid layout))
 
 -- the reply that the checks come to
 abbrev pub reply_at : Result Outcome Stop → Reply
@@ -182,3 +203,4 @@ TellsTruth l (question.Node fid) r = node_in r ≡ seen_of l fid
 TellsTruth l (question.Entry directory layout name) r = child_in r ≡ named l.tree directory name
 TellsTruth l (question.Count directory layout index) r = entries_in r ≡ count_of (kept (layout_at l directory)) (names_of l.tree directory) index
 TellsTruth l (question.Value fid name) r = attribute_in r ≡ value_of l fid name
+TellsTruth l (question.Names directory layout index) r = listed_in r ≡ names_at (kept (layout_at l directory)) (names_of l.tree directory) index

@@ -18,7 +18,7 @@ ghost use Rattle.plan_base.specs.Told.{Told};
 ghost use Rattle.plan_base.specs.Asks.{Asks, answer};
 ghost use Rattle.plan_laws.specs.Truth.{IsTrueOf, IsLaid, questions, over, first_open, or_outcome, Matches, TellsTruth};
 ghost use Rattle.plan_base.specs.Planners.{told_more};
-ghost use Rattle.plan_laws.specs.Readback.{NodesReadBack, ChildrenReadBack, CountsReadBack, ValuesReadBack};
+ghost use Rattle.plan_laws.specs.Readback.{NodesReadBack, ChildrenReadBack, CountsReadBack, ValuesReadBack, NamesReadBack};
 ghost use Rattle.plan_base.specs.declared.question.Question.{Question};
 ghost use Rattle.out_update.specs.declared.result.UpdateResult.{UpdateResult};
 
@@ -37,6 +37,7 @@ pub fn the_checks_are_the_plans()
     ensures rmdir { (targets batch : ℕ) (l : Laid) (p : Fid) (x : List ℕ) → Matches l (asks targets batch (ops.Rmdir p x)) (plan targets (ops.Rmdir p x)) }
     ensures setxattr { (targets batch : ℕ) (l : Laid) (f : Fid) (x v : List ℕ) → Matches l (asks targets batch (ops.SetXattr f x v)) (plan targets (ops.SetXattr f x v)) }
     ensures rename { (targets batch : ℕ) (l : Laid) (p : Fid) (x : List ℕ) (q : Fid) (y : List ℕ) → Matches l (asks targets batch (ops.Rename p x q y)) (plan targets (ops.Rename p x q y)) }
+    ensures migrate { (targets batch : ℕ) (l : Laid) (d : Fid) (c i : ℕ) → Matches l (asks targets batch (ops.Migrate d c i)) (plan targets (ops.Migrate d c i)) }
     ensures link { (targets batch : ℕ) (l : Laid) (p : Fid) (x : List ℕ) (f : Fid) → Matches l (asks targets batch (ops.Link p x f)) (plan targets (ops.Link p x f)) }
     ensures unlink { (targets batch : ℕ) (l : Laid) (p : Fid) (x : List ℕ) → Matches l (asks targets batch (ops.Unlink p x)) (plan targets (ops.Unlink p x)) }
     ensures setattr { (targets batch : ℕ) (l : Laid) (f : Fid) (m u g : ℕ) → Matches l (asks targets batch (ops.SetAttr f m u g)) (plan targets (ops.SetAttr f m u g)) }
@@ -57,4 +58,5 @@ pub fn what_is_read_is_there()
     ensures children { ChildrenReadBack }
     ensures counts { CountsReadBack }
     ensures values { ValuesReadBack }
+    ensures names { NamesReadBack }
 {}

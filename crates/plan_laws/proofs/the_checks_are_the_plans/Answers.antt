@@ -1,5 +1,6 @@
 use Rattle.plan_laws.proofs.Deciding.{create_matches, mkdir_matches, rmdir_matches, setxattr_matches, lookup_matches, link_matches, unlink_matches, setattr_matches, delxattr_matches, getattr_matches, getxattr_matches}
 use Rattle.plan_laws.proofs.Renaming.{rename_matches}
+use Rattle.plan_laws.proofs.Migrating.{migrate_matches}
 use Rattle.plan_laws.proofs.the_checks_are_the_plans.Goals as goal
 
 pub returns-clause-create : goal.returns-clause-create
@@ -19,6 +20,9 @@ returns-clause-lookup c = lookup_matches
 
 pub returns-clause-rename : goal.returns-clause-rename
 returns-clause-rename c = rename_matches
+
+pub returns-clause-migrate : goal.returns-clause-migrate
+returns-clause-migrate c = migrate_matches
 
 pub returns-clause-link : goal.returns-clause-link
 returns-clause-link c = link_matches

@@ -15,8 +15,8 @@ use Rattle.plan_base.specs.declared.outcome.Outcome.{Outcome}
 use Rattle.plan_base.specs.declared.question.Stop.{Stop}
 use Rattle.plan_base.specs.Stops.{◌>>=◌, unless}
 use Rattle.plan_base.specs.Told.{Told, node_told, entry_told, value_told}
-use Rattle.plan_base.specs.Asks.{Asks, AskDirectory, AskNode, AskValue, AskEntry, AskEmpty, AskWalk, Refuse, Settle, answer, directory_told, empty_told, walk_told}
-use Rattle.plan_base.specs.Planning.{check, found, found_node, as_directory, empty_fault, space_fault, link_fault, is_dir_seen, changes_parent, new_asks, asks, Move, replace_asks, over_asks, place_asks, move_asks, moved_with}
+use Rattle.plan_base.specs.Asks.{Asks, AskDirectory, AskNode, AskValue, AskEntry, AskEmpty, AskNames, AskWalk, Refuse, Settle, answer, directory_told, empty_told, all_names_told, walk_told}
+use Rattle.plan_base.specs.Planning.{check, found, found_node, as_directory, empty_fault, space_fault, link_fault, is_dir_seen, changes_parent, new_asks, migrate_fault, many_fault, Migration, migrated, asks, Move, replace_asks, over_asks, place_asks, move_asks, moved_with}
 use Rattle.plan_base.specs.Updates.{Placed}
 use Rattle.plan_shares.specs.Decisions.{IsWriting, WritersReplyOk}
 
@@ -26,6 +26,7 @@ Every P (AskNode f next) = (s : Option Seen) → Every P (next s)
 Every P (AskValue f x next) = (v : Option (List ℕ)) → Every P (next v)
 Every P (AskEntry d layout x next) = (c : Option Fid) → Every P (next c)
 Every P (AskEmpty d layout next) = (b : Bool) → Every P (next b)
+Every P (AskNames d layout next) = (es : List (List ℕ × Fid)) → Every P (next es)
 Every P (AskWalk m from next) = Every P next
 Every P (Refuse e) = Unit {0}
 Every P (Settle o) = P o
@@ -50,6 +51,7 @@ every P t (AskNode f next) h o e = bound P (node_told t f) (λ s. answer t (next
 every P t (AskValue f x next) h o e = bound P (value_told t f x) (λ v. answer t (next v)) o e (λ v k. every P t (next v) (h v) o k)
 every P t (AskEntry d layout x next) h o e = bound P (entry_told t d layout x) (λ c. answer t (next c)) o e (λ c k. every P t (next c) (h c) o k)
 every P t (AskEmpty d layout next) h o e = bound P (empty_told t d layout) (λ b. answer t (next b)) o e (λ b k. every P t (next b) (h b) o k)
+every P t (AskNames d layout next) h o e = bound P (all_names_told t d layout) (λ es. answer t (next es)) o e (λ es k. every P t (next es) (h es) o k)
 every P t (AskWalk m from next) h o e = passed P (walk_told t m 1023 from) (answer t next) o e (λ k. every P t next h o k)
 every P t (Refuse x) h o e = cc
 every P t (Settle w) h o e = subst P (ok_is w o e) h
@@ -74,6 +76,9 @@ module _ {P : Outcome → Type 0} where
 
   each_empty : (d : Fid) (layout : Layout) (next : Bool → Asks) → ((b : Bool) → Each P (next b)) → Each P (AskEmpty d layout next)
   each_empty d layout next h = record { all = λ b. (h b).all }
+
+  each_names : (d : Fid) (layout : Layout) (next : List (List ℕ × Fid) → Asks) → ((es : List (List ℕ × Fid)) → Each P (next es)) → Each P (AskNames d layout next)
+  each_names d layout next h = record { all = λ es. (h es).all }
 
   each_settle : (o : Outcome) → P o → Each P (Settle o)
   each_settle o h = record { all = h }
@@ -123,6 +128,10 @@ place_done m = each_entry m.to_parent _ _ _ by_old
 move_done : (m : Move) → Each IsDone (move_asks m)
 move_done m = each_if (changes_parent m.node m.parent m.to_parent) _ _ (record { all = (place_done m).all }) (place_done m)
 
+migrated_done : (m : Migration) (told : List (List ℕ × Fid)) → Each IsDone (Settle (migrated m told))
+unfolding migrated
+migrated_done m told = record { all = refl }
+
 new_done : (p : Fid) (x : List ℕ) (f : Fid) (outcome : Seen → Outcome) → ((s : Seen) → IsDone (outcome s)) → Each IsDone (new_asks p x f outcome)
 new_done p x f outcome h = each_directory p _ (λ s. each_entry p _ x _ (λ c. each_check (taken_fault c) _ (each_node f _ (λ n. each_check (taken_fault n) _ (each_settle _ (h s))))))
 
@@ -152,7 +161,7 @@ all_done targets batch (ops.Rename p x q y) w =
 all_done targets batch (ops.SetAttr f m u g) w = each_node f _ (λ n. each_check (absent_fault n) _ (each_settle _ refl))
 all_done targets batch (ops.SetXattr f x v) w = each_node f _ (λ n. each_there n _ (λ s. each_value f x _ (λ old. each_check (space_fault s old) _ (each_settle _ refl))))
 all_done targets batch (ops.DelXattr f x) w = each_node f _ (λ n. each_there n _ (λ s. each_value f x _ (λ old. each_check (if is_some old then None else Some ENODATA) _ (each_settle _ refl))))
-all_done targets batch (ops.Migrate d c i) w = record { all = tt }
+all_done targets batch (ops.Migrate d c i) w = each_directory d _ (λ s. each_check (migrate_fault targets d c i) _ (each_names d _ _ (λ es. each_check (many_fault es) _ (migrated_done _ es))))
 all_done targets batch (ops.Lookup p x) w = absurd w
 all_done targets batch (ops.GetAttr f) w = absurd w
 all_done targets batch (ops.GetXattr f x) w = absurd w

@@ -28,13 +28,14 @@ use Rattle.plan_base.specs.declared.question.Stop.TheVariants as stop
 use Rattle.plan_base.specs.Stops.{◌>>=◌, unless}
 use Rattle.plan_base.specs.Told.{Told}
 use Rattle.plan_base.specs.Places.{parts_of}
-use Rattle.plan_base.specs.Asks.{Asks, AskDirectory, AskNode, AskValue, AskEntry, AskEmpty, AskWalk, Refuse, Settle, directory_seen, parent_seen}
+use Rattle.plan_base.specs.Asks.{Asks, AskDirectory, AskNode, AskValue, AskEntry, AskEmpty, AskNames, AskWalk, Refuse, Settle, directory_seen, parent_seen}
 use Rattle.plan_base.specs.Planning.{asks}
-use Rattle.plan_laws.specs.Truth.{IsTrueOf, IsLaid, Matches, over, walk_over, none_of, seen_of, value_of, questions, first_open, is_known, or_outcome, reply_at}
+use Rattle.plan_laws.specs.Truth.{IsTrueOf, IsLaid, Matches, over, walk_over, none_of, all_names_at, seen_of, value_of, questions, first_open, is_known, or_outcome, reply_at}
 use Rattle.plan_laws.proofs.Reaching.{reaching}
 use Rattle.plan_laws.proofs.Deciding.{create_matches, mkdir_matches, rmdir_matches, setxattr_matches, lookup_matches, link_matches, unlink_matches, setattr_matches, delxattr_matches, getattr_matches, getxattr_matches}
 use Rattle.plan_laws.proofs.Renaming.{rename_matches}
-use Rattle.plan_shares.specs.Replies.{IsNoMigrate, ComesTo, RepliesAreTheTrees}
+use Rattle.plan_laws.proofs.Migrating.{migrate_matches}
+use Rattle.plan_shares.specs.Replies.{ComesTo, RepliesAreTheTrees}
 
 -- over a tree no question is open
 abbrev IsEnd : Result Outcome Stop → Type 0
@@ -79,6 +80,7 @@ ends l (AskNode f next) = ends l (next (seen_of l f))
 ends l (AskValue f x next) = ends l (next (value_of l f x))
 ends l (AskEntry d layout x next) = ends l (next (named l.tree d x))
 ends l (AskEmpty d layout next) = ends l (next (none_of layout (names_of l.tree d) 0 (parts_of (laid layout))))
+ends l (AskNames d layout next) = ends l (next (all_names_at layout (names_of l.tree d) 0 (parts_of (laid layout))))
 ends l (AskWalk m from next) = by_fault (walk_over l m 1023 from) (walk_ends l m 1023 from) (ends l next)
   where
     by_fault : (o : Option Stop) → IsFault o → IsEnd (over l next) → IsEnd (unless o (over l next))
@@ -89,24 +91,24 @@ ends l (AskWalk m from next) = by_fault (walk_over l m 1023 from) (walk_ends l m
 ends l (Refuse e) = tt
 ends l (Settle o) = tt
 
--- the twelve operations
+-- the operations
 same_mode : (m : ℕ) → m ≤ 4095 → bit_and m 0xffff ≡ m
 same_mode m low = and_mask m 16 ∙ mod-eq_of_lt (omega (arith, low))
 
-matches : (targets most batch : ℕ) (l : Laid) (op : Op) → IsSound targets most l → IsNoMigrate op → Matches l (asks targets batch op) (plan targets op)
-matches targets most batch l (ops.Create p x f) sound is = create_matches targets batch l p x f
-matches targets most batch l (ops.Mkdir p x f s) sound is = mkdir_matches targets batch l p x f s
-matches targets most batch l (ops.Link p x f) sound is = link_matches targets batch l p x f
-matches targets most batch l (ops.Unlink p x) sound is = unlink_matches targets batch l p x
-matches targets most batch l (ops.Rmdir p x) sound is = rmdir_matches targets batch l p x
-matches targets most batch l (ops.Rename p x q y) sound is = rename_matches targets batch l p x q y
-matches targets most batch l (ops.SetAttr f m u g) sound is = setattr_matches targets batch l f m u g
-matches targets most batch l (ops.SetXattr f x v) sound is = setxattr_matches targets batch l f x v
-matches targets most batch l (ops.DelXattr f x) sound is = delxattr_matches targets batch l f x
-matches targets most batch l (ops.Migrate d c i) sound is = absurd is
-matches targets most batch l (ops.Lookup p x) sound is = lookup_matches targets batch l p x
-matches targets most batch l (ops.GetAttr f) sound is = getattr_matches targets batch l f (λ n g. same_mode n.mode (sound_node targets most l sound.each f n g).node.mode)
-matches targets most batch l (ops.GetXattr f x) sound is = getxattr_matches targets batch l f x
+matches : (targets most batch : ℕ) (l : Laid) (op : Op) → IsSound targets most l → Matches l (asks targets batch op) (plan targets op)
+matches targets most batch l (ops.Create p x f) sound = create_matches targets batch l p x f
+matches targets most batch l (ops.Mkdir p x f s) sound = mkdir_matches targets batch l p x f s
+matches targets most batch l (ops.Link p x f) sound = link_matches targets batch l p x f
+matches targets most batch l (ops.Unlink p x) sound = unlink_matches targets batch l p x
+matches targets most batch l (ops.Rmdir p x) sound = rmdir_matches targets batch l p x
+matches targets most batch l (ops.Rename p x q y) sound = rename_matches targets batch l p x q y
+matches targets most batch l (ops.SetAttr f m u g) sound = setattr_matches targets batch l f m u g
+matches targets most batch l (ops.SetXattr f x v) sound = setxattr_matches targets batch l f x v
+matches targets most batch l (ops.DelXattr f x) sound = delxattr_matches targets batch l f x
+matches targets most batch l (ops.Migrate d c i) sound = migrate_matches targets batch l d c i
+matches targets most batch l (ops.Lookup p x) sound = lookup_matches targets batch l p x
+matches targets most batch l (ops.GetAttr f) sound = getattr_matches targets batch l f (λ n g. same_mode n.mode (sound_node targets most l sound.each f n g).node.mode)
+matches targets most batch l (ops.GetXattr f x) sound = getxattr_matches targets batch l f x
 
 open_one : (P : Question → Type 0) (t : Told) (qs : List Question) (q : Question) → first_open t qs ≡ Some q → AllByRecursion P qs → P q
 open_one P t [] q e h = absurd (none_is e)
@@ -117,9 +119,9 @@ open_one P t (r ∷ qs) q e h = by_test (is_known t r) e (λ k. open_one P t qs 
     by_test false k more = subst P (some_is k) h.0
 
 pub replies_are : RepliesAreTheTrees
-replies_are targets most batch l op t sound is true_of =
+replies_are targets most batch l op t sound true_of =
     let a = asks targets batch op in
-    let m = matches targets most batch l op sound is in
+    let m = matches targets most batch l op sound in
     let reply = m.same.0 ∙ sym (ap (λ p. p.1) (step_decided targets l.tree op)) in
     subst (ComesTo targets l op) (sym (reaching l t true_of a m.same.2)) (by_open (first_open t (questions l a)) refl (over l a) (ends l a) reply m.same.2)
   where

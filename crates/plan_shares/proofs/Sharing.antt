@@ -1,9 +1,10 @@
 -- What the shares of a sound tree answer is true of the tree.
-use Rattle.std.proofs.Common.{◌≡◌, ◌≢◌, ◌<◌, ◌≤◌, ◌+◌, ◌^◌, ◌==◌, ◌&&◌, ◌||◌, ◌%◌, nat_le, nat_lt, cond, ℕ, zero, suc, Bool, true, false, if◌then◌else◌, Option, Some, None, is_some, List, [], ◌∷◌, length, filter, refl, sym, ap, subst, ◌∙◌, arith}
+use Rattle.std.proofs.Common.{◌≡◌, ◌≢◌, ◌<◌, ◌≤◌, ◌+◌, ◌^◌, ◌==◌, ◌&&◌, ◌||◌, ◌%◌, nat_le, nat_lt, cond, ℕ, zero, suc, Bool, true, false, if◌then◌else◌, Option, Some, None, is_some, List, [], ◌∷◌, length, filter, take, refl, sym, ap, subst, ◌∙◌, arith}
 use Rattle.std.proofs.lemmas.Bool.Decides.{nat_tests}
 use Rattle.std.proofs.Math.Dec.{eqb-suc-zero}
 use Rattle.std.proofs.Math.Nat.{mod-lt}
 use Rattle.std.specs.Option.{option_map, unwrap_or}
+use Rattle.std.specs.List.{AllByRecursion}
 use Rattle.std.specs.FinMap.{get, len, entries, empty, len-entries, find, same_map, entries_sorted, from_sorted, get-entries, get-from_sorted, entries-from_sorted}
 use Rattle.std.specs.FinMap.Entries.{is_sorted-where_key, find-where_key}
 use Rattle.fid_space.specs.declared.fid.Fid.{Fid}
@@ -11,6 +12,7 @@ use Rattle.fid_space.specs.FidText.{IsFid}
 use Rattle.fid_space.specs.Places.{place_of, has_place, is_client}
 use Rattle.tree_model.specs.Fids.{fid_cmp, name_cmp}
 use Rattle.tree_model.proofs.Maps.{names_total, exact_names}
+use Rattle.tree_model.specs.Names.{IsName}
 use Rattle.tree_model.specs.declared.node.Node.{Node}
 use Rattle.tree_model.specs.Tree.{Names, names_of, named, no_fid}
 use Rattle.tree_model.specs.Step.{is_dir}
@@ -24,7 +26,7 @@ use Rattle.object_store.specs.declared.body.ObjectKind.{ObjectKind}
 use Rattle.object_store.specs.declared.body.ObjectKind.TheVariants.{File, Directory, Stripe}
 use Rattle.object_store.specs.Bodies.{FitsBody, is_allowed}
 use Rattle.object_store.specs.Objects.{Object}
-use Rattle.object_store.specs.Reads.{reads, node, holder, attr_get, xattr_get, lookup, count, child_get}
+use Rattle.object_store.specs.Reads.{reads, node, holder, attr_get, xattr_get, lookup, count, child_get, names as names_get}
 use Rattle.tree_sound.specs.Sound.{IsSound, FitsNode}
 use Rattle.tree_sound.proofs.Basics.{node_of, by_bool, not_both}
 use Rattle.tree_sound.proofs.Keeping.{sound_node}
@@ -32,6 +34,7 @@ use Rattle.tree_sound.proofs.Story.{node_has_place, directories_fit, parents_are
 use Rattle.tree_shares.specs.Shares.{share, body_of, file_body, directory_body, node_object, stripe_object, stripe_fid_of, names_in, own_names, all_objects, is_at}
 use Rattle.tree_shares.specs.Updates.{part_named}
 use Rattle.tree_shares.proofs.Facts.{facts}
+use Rattle.tree_shares.proofs.Finding.{entries_got}
 use Rattle.tree_shares.proofs.Here.{got_in}
 use Rattle.tree_shares.proofs.Pointwise.{got_share}
 use Rattle.tree_shares.proofs.Telling.{nodes_told, names_told, stripes_told}
@@ -42,8 +45,10 @@ use Rattle.plan_base.specs.declared.question.Question.TheVariants as question
 use Rattle.plan_base.specs.declared.seen.Seen.{Seen}
 use Rattle.plan_base.specs.Places.{node_place, may_stand, entry_at, count_at, parts_of}
 use Rattle.plan_base.specs.Planners.{need_of, node_in, child_in, entries_in, attribute_in}
-use Rattle.plan_laws.specs.Truth.{kept, kind_of_node, node_body, seen_node, seen_of, value_at, value_of, count_of, IsLaid, TellsTruth}
+use Rattle.plan_base.specs.Listed.{listed_in}
+use Rattle.plan_laws.specs.Truth.{kept, kind_of_node, node_body, seen_node, seen_of, value_at, value_of, count_of, names_at, IsLaid, TellsTruth}
 use Rattle.plan_laws.proofs.Readback.{nodes_back, child_back, counts_back, values_back}
+use Rattle.plan_laws.proofs.ListedAgain.{names_back}
 use Rattle.plan_shares.specs.Sharing.{AreCounted, SharesTellTruth}
 
 -- ---- places
@@ -121,15 +126,18 @@ all_pass p (e ∷ es) h = ap (λ b. if b then e ∷ filter p es else filter p es
 plain_count : (s g : ℕ) (names : Names) → len names ≡ count_of (record { count = 0; start = s; generation = g }) names 0
 plain_count s g names = len-entries names ∙ ap length (sym (all_pass (λ e. part_of_name (record { count = 0; start = s; generation = g }) e.0 == 0) (entries names) (λ e. refl)))
 
-stripe_count : (l : Layout) (names : Names) (i : ℕ) → len (names_in l i names) ≡ count_of (kept l) names i
-stripe_count l names i =
+stripe_entries : (l : Layout) (names : Names) (i : ℕ) → entries (names_in l i names) ≡ filter (λ e. part_of_name l e.0 == i) (entries names)
+stripe_entries l names i =
     let p : List ℕ → Bool = λ x. part_of_name l x == i in
     let es = filter (λ (e : List ℕ × Fid). p e.0) (entries names) in
     let sorted = is_sorted-where_key name_cmp p (entries names) (entries_sorted names) in
     let same : names_in l i names ≡ from_sorted es = same_map names_total exact_names _ _ (λ q.
     got_in l i names q ∙ ap (λ o. cond (p q) o None) (get-entries names q)
     ∙ sym (find-where_key name_cmp p q (λ x e. ap p (sym (exact_names q x e))) (entries names)) ∙ sym (get-from_sorted name_cmp es q sorted)) in
-    ap (λ (m : Names). len m) same ∙ len-entries (from_sorted {R = name_cmp} es) ∙ ap length (entries-from_sorted name_cmp es sorted)
+    ap (λ (m : Names). entries m) same ∙ entries-from_sorted name_cmp es sorted
+
+stripe_count : (l : Layout) (names : Names) (i : ℕ) → len (names_in l i names) ≡ count_of (kept l) names i
+stripe_count l names i = len-entries (names_in l i names) ∙ ap length (stripe_entries l names i)
 
 fewer_pass : (p : List ℕ × Fid → Bool) (es : List (List ℕ × Fid)) → length (filter p es) ≤ length es
 fewer_pass p [] = omega arith
@@ -145,6 +153,22 @@ few_in l names i h =
     let b = len-entries names in
     let c = fewer_pass (λ e. part_of_name l e.0 == i) (entries names) in
     omega (arith, a, b, c, h)
+
+-- ---- names
+
+pub plain_names : (s g : ℕ) (names : Names) → take 33 (entries names) ≡ names_at (record { count = 0; start = s; generation = g }) names 0
+plain_names s g names = ap (λ es. take 33 es) (sym (all_pass (λ e. part_of_name (record { count = 0; start = s; generation = g }) e.0 == 0) (entries names) (λ e. refl)))
+
+pub stripe_names : (l : Layout) (names : Names) (i : ℕ) → take 33 (entries (names_in l i names)) ≡ names_at (kept l) names i
+stripe_names l names i = ap (λ es. take 33 es) (stripe_entries l names i)
+
+each_listed : (names : Names) → ((x : List ℕ) (c : Fid) → get names x ≡ Some c → IsName x × IsFid c) → (es : List (List ℕ × Fid)) → AllByRecursion (λ e. get names e.0 ≡ Some e.1) es
+    → AllByRecursion (λ e. IsName e.0 × IsFid e.1) es
+each_listed names h [] k = tt
+each_listed names h (e ∷ es) k = (h e.0 e.1 k.0, each_listed names h es k.1)
+
+all_listed : (names : Names) → ((x : List ℕ) (c : Fid) → get names x ≡ Some c → IsName x × IsFid c) → AllByRecursion (λ e. IsName e.0 × IsFid e.1) (entries names)
+all_listed names h = each_listed names h (entries names) (entries_got names_total names)
 
 -- ---- objects
 
@@ -279,8 +303,54 @@ module _ (targets most : ℕ) (some : 1 ≤ targets) (few : targets ≤ 16) (bou
       ap (λ (k : Kept). at (count_at targets d (laid k) i)) e ∙ ap at (count_is targets d ly i fit within p)
       ∙ counts_there d there.0 i p.target ly.count there.1 there.2 refl within p.place
 
+  may_list : (d : Fid) (n : Node) → get l.tree.nodes d ≡ Some n → (x : List ℕ) (c : Fid) → get (names_of l.tree d) x ≡ Some c → IsName x × IsFid c
+  may_list d n g x c h = let f = facts targets most l sound d n g in (f.are_names x c h, f.children x c h)
+
+  names_there : (d : Fid) (n : Node) (i t c : ℕ) → get l.tree.nodes d ≡ Some n → n.dir ≡ true → (layout_at l d).count ≡ c → i < (if c == 0 then 1 else c)
+      → place_of targets (part_in targets d (layout_at l d) i c) ≡ Some t
+      → listed_in (names_get (holder (get (share targets l t) (part_in targets d (layout_at l d) i c)))) ≡ names_at (kept (layout_at l d)) (names_of l.tree d) i
+  names_there d n i t zero g dir e low place =
+      let ly = layout_at l d in
+      let names = names_of l.tree d in
+      let first : i ≡ 0 = omega (arith, low) in
+      let got = node_is (get (share targets l t) d) (node_object n ly names) (nodes_told targets most l d t few sound place ∙ ap (λ o. option_map (λ n. node_object n ly names) o) g) in
+      ap (λ o. listed_in (names_get (holder o))) got
+      ∙ ap (λ b. listed_in (names_get (holder (Some (record { body = if b then directory_body n ly else file_body n; entries = own_names ly names; attributes = n.xattrs }))))) dir
+      ∙ ap (λ k. listed_in (names_get (Some (record { body = directory_body n ly; entries = if k == 0 then names else empty; attributes = n.xattrs })))) e
+      ∙ names_back (record { body = directory_body n ly; entries = names; attributes = n.xattrs }) (all_listed names (may_list d n g))
+      ∙ plain_names ly.start ly.generation names
+      ∙ ap (λ k. names_at (record { count = k; start = ly.start; generation = ly.generation }) names 0) (sym e)
+      ∙ ap (λ k. names_at (kept ly) names k) (sym first)
+  names_there d n i t (suc c) g dir e low place =
+      let ly = layout_at l d in
+      let names = names_of l.tree d in
+      let below : i < suc c = subst (λ b. i < (if b then 1 else suc c)) (eqb-suc-zero c) low in
+      ap (λ o. listed_in (names_get (holder o))) (stripes_told targets most l d n i t few sound g (omega (arith, e, below)) place)
+      ∙ names_back (stripe_object d ly names i) (all_listed (names_in ly i names) in_part) ∙ stripe_names ly names i
+    where
+      by_part : (x : List ℕ) (c : Fid) (b : Bool) → cond b (get (names_of l.tree d) x) None ≡ Some c → get (names_of l.tree d) x ≡ Some c
+      by_part x c true h = h
+      by_part x c false h = cc
+
+      in_part : (x : List ℕ) (c : Fid) → get (names_in (layout_at l d) i (names_of l.tree d)) x ≡ Some c → IsName x × IsFid c
+      in_part x c h = may_list d n g x c (by_part x c (part_of_name (layout_at l d) x == i) (sym (got_in (layout_at l d) i (names_of l.tree d) x) ∙ h))
+
+  tells_names : (d : Fid) (layout : Kept) (i : ℕ) → layout ≡ kept (layout_at l d) → is_dir (get l.tree.nodes d) ≡ true → i < parts_of (laid layout)
+      → listed_in (reads (share targets l (need_of targets (question.Names d layout i)).target) (need_of targets (question.Names d layout i)).ask) ≡ names_at (kept (layout_at l d)) (names_of l.tree d) i
+  unfolding reads
+  tells_names d layout i e dir low =
+      let ly = layout_at l d in
+      let fit = directories_fit targets most l d few bound sound dir in
+      let p = placed targets d ly.count ly.start ly.generation i some few fit in
+      let within : i < parts_of ly = subst (λ (k : Kept). i < parts_of (laid k)) e low in
+      let at : ℕ × Fid → List (List ℕ × Fid) = λ a. listed_in (names_get (holder (get (share targets l a.0) a.1))) in
+      let there = node_of (get l.tree.nodes d) dir in
+      ap (λ (k : Kept). at (count_at targets d (laid k) i)) e ∙ ap at (count_is targets d ly i fit within p)
+      ∙ names_there d there.0 i p.target ly.count there.1 there.2 refl within p.place
+
 pub shares_tell : SharesTellTruth
 shares_tell targets most l (question.Node f) some few bound sound counted q = tells_node targets most some few bound l sound counted f
 shares_tell targets most l (question.Value f x) some few bound sound counted q = tells_value targets most some few bound l sound counted f x
 shares_tell targets most l (question.Entry d layout x) some few bound sound counted q = tells_entry targets most some few bound l sound counted d layout x q.0 q.1
 shares_tell targets most l (question.Count d layout i) some few bound sound counted q = tells_count targets most some few bound l sound counted d layout i q.0 q.1 q.2
+shares_tell targets most l (question.Names d layout i) some few bound sound counted q = tells_names targets most some few bound l sound counted d layout i q.0 q.1 q.2

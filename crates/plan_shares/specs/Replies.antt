@@ -2,7 +2,6 @@
 use Rattle.std.specs.Prelude.{◌≡◌, ℕ, List, Result, Ok, Err}
 use Rattle.fid_space.specs.declared.fid.Fid.{Fid}
 use Rattle.tree_model.specs.declared.op.Op.{Op}
-use Rattle.tree_model.specs.declared.op.Op.TheVariants as ops
 use Rattle.tree_model.specs.declared.reply.Reply.TheVariants as replies
 use Rattle.tree_model.specs.Keys.{Laid}
 use Rattle.tree_model.specs.Step.{step}
@@ -14,11 +13,6 @@ use Rattle.plan_base.specs.Told.{Told}
 use Rattle.plan_base.specs.Planners.{reached}
 use Rattle.plan_laws.specs.Truth.{IsTrueOf, IsLaid}
 
--- all operations but migrate
-abbrev pub IsNoMigrate : Op → Type 0
-IsNoMigrate (ops.Migrate directory count index) = ⊥
-IsNoMigrate op = Unit {0}
-
 -- to a question that the tree's shares can answer, or to the reply of the tree's step
 abbrev pub ComesTo : ℕ → Laid → Op → Result Outcome Stop → Type 0
 ComesTo targets l op (Ok o) = o.reply ≡ (step targets l.tree op).1
@@ -28,5 +22,5 @@ ComesTo targets l op (Err stop.Memory) = ⊥
 
 abbrev pub RepliesAreTheTrees : Type 0
 RepliesAreTheTrees =
-    (targets most batch : ℕ) (l : Laid) (op : Op) (t : Told) → IsSound targets most l → IsNoMigrate op → IsTrueOf l t
+    (targets most batch : ℕ) (l : Laid) (op : Op) (t : Told) → IsSound targets most l → IsTrueOf l t
     → ComesTo targets l op (reached targets batch op t)

@@ -59,7 +59,7 @@ collected t d layout names i (suc left) go qs out h e =
     (again (names_from t d layout (suc i) left) (λ more. Ok (names_at layout names i ++ more)) go
     ∙ collected t d layout names (suc i) left (λ more. go (names_at layout names i ++ more)) qs out h e)
 
-all_behind : (P : Question → Type 0) (xs ys : List Question) → AllByRecursion P (xs ++ ys) → AllByRecursion P ys
+pub all_behind : (P : Question → Type 0) (xs ys : List Question) → AllByRecursion P (xs ++ ys) → AllByRecursion P ys
 all_behind P [] ys h = h
 all_behind P (x ∷ xs) ys h = all_behind P xs ys h.1
 
@@ -107,12 +107,12 @@ walked l t h m (suc left) at go qs out e = by_tests (same_fid at root_fid) (same
     by_tests false false more k = further (get t.nodes at) (h.nodes at) more k.1
 
 -- the layout of the parts that are asked
-laid_parts : (l : Laid) (d : Fid) (layout : Layout) (n : ℕ) (qs : List Question) → AllByRecursion (IsLaid l) (part_questions d layout 0 (if n == 0 then 1 else n) ++ qs) → layout ≡ kept (layout_at l d)
+pub laid_parts : (l : Laid) (d : Fid) (layout : Layout) (n : ℕ) (qs : List Question) → AllByRecursion (IsLaid l) (part_questions d layout 0 (if n == 0 then 1 else n) ++ qs) → layout ≡ kept (layout_at l d)
 unfolding part_questions
 laid_parts l d layout zero qs h = h.0.0
 laid_parts l d layout (suc n) qs h = (subst (λ b. AllByRecursion (IsLaid l) (part_questions d layout 0 (if b then 1 else suc n) ++ qs)) (eqb-suc-zero n) h).0.0
 
-laid_names : (l : Laid) (d : Fid) (layout : Layout) (n : ℕ) (qs : List Question) → AllByRecursion (IsLaid l) (name_questions d layout 0 (if n == 0 then 1 else n) ++ qs) → layout ≡ kept (layout_at l d)
+pub laid_names : (l : Laid) (d : Fid) (layout : Layout) (n : ℕ) (qs : List Question) → AllByRecursion (IsLaid l) (name_questions d layout 0 (if n == 0 then 1 else n) ++ qs) → layout ≡ kept (layout_at l d)
 unfolding name_questions
 laid_names l d layout zero qs h = h.0.0
 laid_names l d layout (suc n) qs h = (subst (λ b. AllByRecursion (IsLaid l) (name_questions d layout 0 (if b then 1 else suc n) ++ qs)) (eqb-suc-zero n) h).0.0

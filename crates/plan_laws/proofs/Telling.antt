@@ -22,14 +22,14 @@ use Rattle.plan_base.specs.Listed.{listed_in}
 use Rattle.plan_base.specs.Planners.{node_in, child_in, entries_in, attribute_in, told_more}
 use Rattle.plan_laws.specs.Truth.{kept, seen_of, value_of, count_of, names_at, IsTrueOf, TellsTruth}
 
-both_true : (a b : Bool) → (a && b) ≡ true → (a ≡ true) × (b ≡ true)
+pub both_true : (a b : Bool) → (a && b) ≡ true → (a ≡ true) × (b ≡ true)
 both_true true b h = (refl, h)
 both_true false b h = (h, cc)
 
-fids_same : (a b : Fid) → same_fid a b ≡ true → a ≡ b
+pub fids_same : (a b : Fid) → same_fid a b ≡ true → a ≡ b
 fids_same a b h = told_same a b (sym (fid_ties a b) ∙ h)
 
-names_same : (x y : List ℕ) → same_name x y ≡ true → x ≡ y
+pub names_same : (x y : List ℕ) → same_name x y ≡ true → x ≡ y
 names_same x y h = name_same x y (sym (name_ties x y) ∙ h)
 
 some_same : {A : Type 0} → (a b : A) → Some a ≡ Some b → a ≡ b

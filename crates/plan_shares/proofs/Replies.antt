@@ -38,7 +38,7 @@ use Rattle.plan_laws.proofs.Migrating.{migrate_matches}
 use Rattle.plan_shares.specs.Replies.{ComesTo, RepliesAreTheTrees}
 
 -- over a tree no question is open
-abbrev IsEnd : Result Outcome Stop → Type 0
+abbrev pub IsEnd : Result Outcome Stop → Type 0
 IsEnd (Ok o) = Unit {0}
 IsEnd (Err (stop.Refused e)) = Unit {0}
 IsEnd (Err (stop.Ask q)) = ⊥
@@ -66,7 +66,7 @@ walk_ends l m (suc left) at = by_tests (same_fid at root_fid) (same_fid at m) (w
     by_tests false true h = tt
     by_tests false false h = h
 
-ends : (l : Laid) (a : Asks) → IsEnd (over l a)
+pub ends : (l : Laid) (a : Asks) → IsEnd (over l a)
 ends l (AskDirectory f next) = by_seen (seen_of l f) (λ s. ends l (next s))
   where
     by_dir : (s : Seen) (b : Bool) → ((s : Seen) → IsEnd (over l (next s))) → IsEnd ((if b then Ok s else Err (stop.Refused ENOTDIR)) >>= (λ seen. over l (next seen)))
@@ -95,7 +95,7 @@ ends l (Settle o) = tt
 same_mode : (m : ℕ) → m ≤ 4095 → bit_and m 0xffff ≡ m
 same_mode m low = and_mask m 16 ∙ mod-eq_of_lt (omega (arith, low))
 
-matches : (targets most batch : ℕ) (l : Laid) (op : Op) → IsSound targets most l → Matches l (asks targets batch op) (plan targets op)
+pub matches : (targets most batch : ℕ) (l : Laid) (op : Op) → IsSound targets most l → Matches l (asks targets batch op) (plan targets op)
 matches targets most batch l (ops.Create p x f) sound = create_matches targets batch l p x f
 matches targets most batch l (ops.Mkdir p x f s) sound = mkdir_matches targets batch l p x f s
 matches targets most batch l (ops.Link p x f) sound = link_matches targets batch l p x f
@@ -110,7 +110,7 @@ matches targets most batch l (ops.Lookup p x) sound = lookup_matches targets bat
 matches targets most batch l (ops.GetAttr f) sound = getattr_matches targets batch l f (λ n g. same_mode n.mode (sound_node targets most l sound.each f n g).node.mode)
 matches targets most batch l (ops.GetXattr f x) sound = getxattr_matches targets batch l f x
 
-open_one : (P : Question → Type 0) (t : Told) (qs : List Question) (q : Question) → first_open t qs ≡ Some q → AllByRecursion P qs → P q
+pub open_one : (P : Question → Type 0) (t : Told) (qs : List Question) (q : Question) → first_open t qs ≡ Some q → AllByRecursion P qs → P q
 open_one P t [] q e h = absurd (none_is e)
 open_one P t (r ∷ qs) q e h = by_test (is_known t r) e (λ k. open_one P t qs q k h.1)
   where

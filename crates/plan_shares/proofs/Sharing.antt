@@ -56,7 +56,7 @@ use Rattle.plan_shares.specs.Sharing.{AreCounted, SharesTellTruth}
 all_of : (a b c d e f : Bool) → a ≡ true → b ≡ true → c ≡ true → d ≡ true → e ≡ true → f ≡ true → ((a && (b && c)) && (d && (e && f))) ≡ true
 all_of a b c d e f p q r s t u = (λ i. (p i && (q i && r i)) && (s i && (t i && u i)))
 
-may : (targets : ℕ) (d : Fid) (c s g : ℕ) → FitsDirectory targets d (record { count = c; start = s; generation = g }) → may_stand targets d (record { count = c; start = s; generation = g }) ≡ true
+pub may : (targets : ℕ) (d : Fid) (c s g : ℕ) → FitsDirectory targets d (record { count = c; start = s; generation = g }) → may_stand targets d (record { count = c; start = s; generation = g }) ≡ true
 may targets d zero s g h =
     let low = h.layout.start in
     let high = h.layout.generation in
@@ -73,19 +73,19 @@ may targets d (suc c) s g h =
     (grind (arith, nat_tests)) (grind (arith, nat_tests)) (grind (arith, nat_tests)) (ap (λ b. b || (s == 0)) one) h.placed (ap (λ b. b || is_client targets d) (eqb-suc-zero c) ∙ known)
 
 -- the object of a part
-abbrev part_in : ℕ → Fid → Layout → ℕ → ℕ → Fid
+abbrev pub part_in : ℕ → Fid → Layout → ℕ → ℕ → Fid
 part_in targets d l i zero = d
 part_in targets d l i (suc more) = stripe_fid_of targets d l i
 
-abbrev part_fid : ℕ → Fid → Layout → ℕ → Fid
+abbrev pub part_fid : ℕ → Fid → Layout → ℕ → Fid
 part_fid targets d l i = part_in targets d l i l.count
 
-record Placed (targets : ℕ) (d : Fid) (l : Layout) (i : ℕ) : Type 0 where
-  target : ℕ
-  part : part_at targets d l i ≡ Some (target, part_fid targets d l i)
-  place : place_of targets (part_fid targets d l i) ≡ Some target
+pub record Placed (targets : ℕ) (d : Fid) (l : Layout) (i : ℕ) : Type 0 where
+  pub target : ℕ
+  pub part : part_at targets d l i ≡ Some (target, part_fid targets d l i)
+  pub place : place_of targets (part_fid targets d l i) ≡ Some target
 
-placed : (targets : ℕ) (d : Fid) (c s g i : ℕ) → 1 ≤ targets → targets ≤ 16 → FitsDirectory targets d (record { count = c; start = s; generation = g })
+pub placed : (targets : ℕ) (d : Fid) (c s g i : ℕ) → 1 ≤ targets → targets ≤ 16 → FitsDirectory targets d (record { count = c; start = s; generation = g })
     → Placed targets d (record { count = c; start = s; generation = g }) i
 placed targets d zero s g i some few h = own (place_of targets d) refl h.placed
   where
@@ -97,19 +97,19 @@ placed targets d (suc c) s g i some few h =
     record { target = (s + i) % targets; part = refl; place = stripe_placed targets d ((s + i) % targets) i g few (mod-lt (s + i) (let one = some in omega (arith, one))) known }
 
 -- the part that has a name
-name_part : (targets : ℕ) (d : Fid) (c s g : ℕ) (x : List ℕ)
+pub name_part : (targets : ℕ) (d : Fid) (c s g : ℕ) (x : List ℕ)
     → part_named targets d (record { count = c; start = s; generation = g }) x
     ≡ part_fid targets d (record { count = c; start = s; generation = g }) (part_of_name (record { count = c; start = s; generation = g }) x)
 name_part targets d zero s g x = refl
 name_part targets d (suc c) s g x = part_striped targets d c s g x
 
-entry_is : (targets : ℕ) (d : Fid) (l : Layout) (x : List ℕ) → FitsDirectory targets d l → (p : Placed targets d l (part_of_name l x))
+pub entry_is : (targets : ℕ) (d : Fid) (l : Layout) (x : List ℕ) → FitsDirectory targets d l → (p : Placed targets d l (part_of_name l x))
     → entry_at targets d l x ≡ (p.target, part_fid targets d l (part_of_name l x))
 unfolding entry_at
 entry_is targets d l x h p =
     ap (λ b. if b then unwrap_or (place_at targets d l x) (0, d) else (0, d)) (may targets d l.count l.start l.generation h) ∙ ap (λ o. unwrap_or o (0, d)) p.part
 
-count_is : (targets : ℕ) (d : Fid) (l : Layout) (i : ℕ) → FitsDirectory targets d l → i < parts_of l → (p : Placed targets d l i)
+pub count_is : (targets : ℕ) (d : Fid) (l : Layout) (i : ℕ) → FitsDirectory targets d l → i < parts_of l → (p : Placed targets d l i)
     → count_at targets d l i ≡ (p.target, part_fid targets d l i)
 unfolding count_at
 count_is targets d l i h low p =

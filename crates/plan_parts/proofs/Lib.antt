@@ -1,0 +1,10 @@
+pub mod Targets
+pub mod Parts
+pub mod Placing
+pub mod Over
+pub mod Ops
+pub mod Renames
+pub mod Listed
+pub mod Migrates
+pub mod Questions
+pub mod Decided

@@ -1,0 +1,4 @@
+pub mod Lengths
+pub mod Chunking
+pub mod Appending
+pub mod Listing

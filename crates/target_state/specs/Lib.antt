@@ -1,0 +1,4 @@
+pub mod State
+pub mod Image
+pub mod Rules
+pub mod Commit

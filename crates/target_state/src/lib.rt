@@ -1,0 +1,19 @@
+//! What one metadata target knows, without its disk: who it is, its numbers, its objects, its update log, the
+//! answers of its clients, what isn't committed yet, and who holds it.
+//!
+//! The layer above may rest on this: a state is seen as one plain record; each call's answer, and the state
+//! after it, are functions of that record; and its image, which a commit makes durable, always fits a disk.
+#![tactic(auto)]
+
+mod answers;
+mod committing;
+mod executing;
+mod holding;
+mod image;
+mod state;
+mod telling;
+mod waiting;
+
+pub use answers::{ExecuteAnswer, HoldAnswer, ReleaseAnswer};
+pub use state::State;
+pub use waiting::{Committed, Marks, Waiting};

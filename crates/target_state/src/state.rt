@@ -1,0 +1,102 @@
+ghost use Rattle.std.specs.Prelude.{◌≡◌, ◌≤◌, ◌<◌, ◌^◌, length, IfOk};
+ghost use Rattle.llog_store.specs.Log.{log_text};
+ghost use Rattle.target_state.specs.State.{first_state};
+ghost use Rattle.target_state.specs.Image.{state_text, most_image};
+
+use crate::waiting::WaitingList;
+use commit_sharing::Pending;
+use fid_space::Cluster;
+use llog_store::Llog;
+use object_store::Objects;
+use reply_cache::Seats;
+use state_image::Front;
+use std::alloc::{AllocError as Memory, Global};
+use std::marker::Model;
+use update_record::Attempt;
+
+/// What a target knows, without its disk.
+#[derive(Drop)]
+pub struct State {
+    pub(crate) alloc: Global,
+    pub(crate) front: Front,
+    pub(crate) objects: Objects,
+    pub(crate) log: Llog,
+    pub(crate) waiting: WaitingList,
+    pub(crate) pending: Pending,
+    pub(crate) holder: Option<Attempt>,
+    pub(crate) ended: [u64; 16],
+}
+
+impl Model for State {
+    ghost use Rattle.target_state.specs.State.{TargetState};
+    ghost use Rattle.target_state.specs.Image.{IsBounded};
+    ghost use Rattle.std.specs.Prelude.{◌<◌, IfSome};
+    ghost use Rattle.std.specs.Coded.{codes};
+    ghost use Rattle.object_store.specs.Objects.{coded_objects};
+    ghost use Rattle.commit_sharing.specs.Pending.{coded_writers};
+
+    ghost Value = { TargetState };
+
+    ghost coded = { Prim.hlevel (codes, coded_objects, coded_writers) };
+
+    ghost view = { λ s. record { targets = s.front.cluster; index = s.front.index; epoch = s.front.epoch; transno = s.front.transno; clock = s.front.clock; next_batch = s.front.next_batch; mark = s.front.mark; seats = s.front.seats; objects = s.objects; log = s.log; waiting = s.waiting; writers = s.pending; holder = s.holder; ended = s.ended } };
+
+    ghost invariant = { λ s. IfSome s.holder (λ h. h.master < 16) × IsBounded s.objects s.log };
+}
+
+impl State {
+    /// The state of a target that was formatted.
+    pub fn new(alloc: Global, cluster: Cluster, index: u8) -> Result<State, Memory>
+        ensures { IfOk result (λ s. s ≡ first_state cluster index) }
+    {
+        let front = Front {
+            cluster,
+            index,
+            epoch: 1,
+            transno: 0,
+            clock: 0,
+            next_batch: 1,
+            mark: 0,
+            seats: Seats::new(),
+        };
+        Ok(State {
+            alloc,
+            front,
+            objects: Objects::new(alloc, cluster, index)?,
+            log: Llog::new(alloc)?,
+            waiting: WaitingList::new(alloc),
+            pending: Pending::new(alloc),
+            holder: None,
+            ended: [0; 16],
+        })
+    }
+
+    /// The length of the image that it would commit now, without packing the log first.
+    #[tactic(auto, using(crate::proofs::Lengths::state_length))]
+    pub fn load(&self) -> u64
+        ensures value { result ≡ length (state_text self.now) }
+        ensures fits { result ≤ most_image }
+    {
+        u64::from(self.front.size()) + self.objects.size() + 8 + log_length(&self.log)
+    }
+
+    /// Its image fits a disk, whatever was executed. The call does nothing: its contract is a law.
+    #[tactic(auto, using(crate::proofs::Lengths::state_length))]
+    pub fn fits_a_disk(&self)
+        ensures { length (state_text self.now) ≤ most_image }
+    {
+        let _size = self.front.size();
+    }
+}
+
+/// How many bytes a log has.
+pub(crate) fn log_length(log: &Llog) -> u64
+    ensures value { result ≡ length (log_text log.now) }
+    ensures small { result < 2 ^ 63 }
+{
+    let before = log.chunks().saturating_sub(1);
+    match log.chunk(before) {
+        None => 0,
+        Some(last) => 32_768 * u64::from(before) + last.len() as u64,
+    }
+}

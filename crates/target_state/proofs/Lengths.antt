@@ -59,6 +59,9 @@ pub part_joined : (log : Log) → (word w32 (length (log_text log)) ++ zeros 4) 
 unfolding log_part
 part_joined log = append_assoc (word w32 (length (log_text log))) (zeros 4) (log_text log)
 
+pub head_joined : (log : Log) (head : List ℕ) → head ≡ word w32 (length (log_text log)) ++ zeros 4 → head ++ log_text log ≡ log_part log
+head_joined log head is = ap (λ (l : List ℕ). l ++ log_text log) is ∙ part_joined log
+
 pub image_is : (front : Front) (objects : ObjectMap) (log : Log) (a b c d e head : List ℕ) → a ≡ [] → b ≡ a ++ front_text front → c ≡ b ++ image_text objects → d ≡ c ++ head → e ≡ d ++ log_text log
     → head ≡ word w32 (length (log_text log)) ++ zeros 4 → e ≡ spelled.state_text (record { front = front; objects = objects; log = log })
 unfolding spelled.state_text

@@ -1,14 +1,14 @@
 -- Pieces that are put one after another.
 use Rattle.std.specs.Prelude.{IsTrue, IsSome, Option, OnOk, is_err, false, min}
-use Rattle.std.proofs.Common.{◌≡◌, ◌≤◌, ◌<◌, ◌+◌, ◌-◌, ◌*◌, ℕ, zero, suc, List, [], ◌++◌, length, take, drop, true, Ok, Err, Result, Some, None, refl, sym, ap, subst, ◌∙◌, arith, add-one, inl, append_assoc, append-nil, length-append, length-take, length-drop}
+use Rattle.std.proofs.Common.{◌≡◌, ◌≤◌, ◌<◌, ◌+◌, ℕ, List, [], ◌++◌, length, take, drop, Ok, Err, Result, Some, refl, sym, ap, subst, ◌∙◌, arith, inl, append_assoc, append-nil, length-append, length-take, length-drop}
 use Rattle.std.proofs.lemmas.Bool.{false≢true}
 use Rattle.std.proofs.Math.Seq.{take-add, take-append_seam, drop-drop}
-use Rattle.std.proofs.lemmas.List.{take_all, length-take-le}
+use Rattle.std.proofs.lemmas.List.{length-take-le}
 use Rattle.outside.specs.Causes.{Rose}
 use Rattle.outside.specs.Disk.{Shown, Stays}
 use Rattle.target_disk.specs.Draft.{Begun, put_len}
 use Rattle.target_disk.specs.Tables.{Saved, image_most}
-use Rattle.target_disk.specs.Store.{HasPut, Stands, OpensAs, OpensAsEither, CommitCauses, PutFlags, PutLeaves}
+use Rattle.target_disk.specs.Store.{HasPut, Stands, OpensAs, OpensAsEither, CommitCauses, PutFlags}
 use Rattle.target_disk.specs.declared.store.CommitFault.{CommitFault}
 use Rattle.target_disk.specs.declared.store.CommitFault.TheVariants as fault
 use Rattle.object_store.specs.ImageText.{image_text}

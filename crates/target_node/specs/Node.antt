@@ -1,5 +1,5 @@
 -- A target over its disk.
-use Rattle.std.specs.Prelude.{◌≡◌, ◌≤◌, ℕ, List, Bool, true, false, IsTrue, Result, Ok, Err, OnOk, ⊤}
+use Rattle.std.specs.Prelude.{◌≡◌, ◌≤◌, ℕ, true, IsTrue, Result, Ok, Err, ⊤}
 use Rattle.outside.specs.Causes.{Rose}
 use Rattle.outside.specs.Disk.{Shown, Stays}
 use Rattle.target_disk.specs.Tables.{Saved}

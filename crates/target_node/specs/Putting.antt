@@ -1,5 +1,5 @@
 -- What putting pieces of an image does to a disk.
-use Rattle.std.specs.Prelude.{◌≡◌, ◌+◌, ◌≤◌, ℕ, List, ◌++◌, Bool, true, IsTrue, IsSome, Option, Result, Ok, Err, length}
+use Rattle.std.specs.Prelude.{◌≡◌, ◌+◌, ◌≤◌, ℕ, List, ◌++◌, true, IsTrue, IsSome, Option, Result, Ok, Err, length}
 use Rattle.outside.specs.Causes.{Rose}
 use Rattle.outside.specs.Disk.{Shown, Stays}
 use Rattle.target_disk.specs.Tables.{Saved}

@@ -1,5 +1,5 @@
 -- What appending a record to a log comes to.
-use Rattle.std.proofs.Common.{◌≡◌, ℕ, ◌+◌, ◌*◌, ◌≤◌, ◌<◌, List, length, None, refl, ap, arith}
+use Rattle.std.proofs.Common.{◌≡◌, ℕ, ◌+◌, ◌*◌, ◌≤◌, ◌<◌, List, length, None, ap, arith}
 use Rattle.llog_store.specs.Numbers.{pad8}
 use Rattle.llog_store.specs.Log.{Log, log_text, record_size}
 use Rattle.llog_store.specs.Kept.{append_fault}

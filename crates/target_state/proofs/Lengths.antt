@@ -1,11 +1,11 @@
 -- How long the image is.
-use Rattle.std.proofs.Common.{◌≡◌, ℕ, ◌+◌, ◌-◌, ◌*◌, ◌/◌, ◌≤◌, ◌<◌, ◌^◌, nat_lt, Bool, true, false, if◌then◌else◌, List, [], ◌∷◌, ◌++◌, length, take, drop, Option, Some, None, refl, sym, ap, ◌∙◌, arith, append_assoc, length-append, length-take, length-drop}
+use Rattle.std.proofs.Common.{◌≡◌, ℕ, ◌+◌, ◌-◌, ◌*◌, ◌≤◌, nat_lt, Bool, true, false, if◌then◌else◌, List, [], ◌++◌, length, drop, Some, None, refl, sym, ap, ◌∙◌, arith, append_assoc, length-append, length-take, length-drop}
 use Rattle.std.proofs.lemmas.Option.{none-some, same_Some}
 use Rattle.std.proofs.lemmas.Bool.{ltb-true, ltb-false}
 use Rattle.byte_grammar.specs.Numbers.{word, zeros}
 use Rattle.byte_grammar.proofs.Bytes.{wide32, length-zeros}
 use Rattle.std.specs.Int.{w32}
-use Rattle.llog_store.specs.Log.{Log, IsLog, log_text}
+use Rattle.llog_store.specs.Log.{Log, log_text}
 use Rattle.llog_store.specs.Chunked.{chunk_count, chunk_at, chunk_of}
 use Rattle.object_store.specs.Objects.{ObjectMap}
 use Rattle.object_store.specs.ImageText.{image_text}

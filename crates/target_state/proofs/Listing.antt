@@ -1,5 +1,5 @@
 -- The marks that a commit tells, one master after another.
-use Rattle.std.proofs.Common.{◌≡◌, ℕ, suc, ◌+◌, ◌-◌, ◌<◌, ◌∙◌, List, ◌++◌, sym, ap, arith, append_assoc}
+use Rattle.std.proofs.Common.{◌≡◌, ℕ, suc, ◌+◌, ◌-◌, ◌<◌, ◌∙◌, List, ◌++◌, ap, arith, append_assoc}
 use Rattle.target_state.specs.declared.waiting.Waiting.{Waiting}
 use Rattle.target_state.specs.Commit.{other_mark, marks_from}
 

@@ -1,5 +1,5 @@
 use Rattle.std.specs.Prelude.{[]}
-use Rattle.std.proofs.Common.{◌≡◌, sym, subst, ap, arith}
+use Rattle.std.proofs.Common.{sym, subst, arith}
 use Rattle.target_disk.specs.Store.{Stands, next}
 use Rattle.target_state.specs.Image.{state_text}
 use Rattle.target_state.proofs.Lengths.{state_length}

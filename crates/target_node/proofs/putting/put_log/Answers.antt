@@ -1,6 +1,5 @@
-use Rattle.std.proofs.Common.{◌≡◌, ◌∙◌, ◌++◌, ℕ, List, length, ap, sym, subst, arith, length-append}
+use Rattle.std.proofs.Common.{◌∙◌, ◌++◌, ℕ, List, length, ap, subst, arith, length-append}
 use Rattle.llog_store.specs.Log.{Log, log_text}
-use Rattle.state_image.specs.StateText.{log_part}
 use Rattle.target_state.proofs.Lengths.{head_joined}
 use Rattle.target_node.specs.Putting.{Pours}
 use Rattle.target_node.proofs.Pouring.{pours_then}

@@ -1,4 +1,4 @@
-use Rattle.std.proofs.Common.{◌≡◌, ◌∙◌, ◌+◌, ◌-◌, ◌++◌, ap}
+use Rattle.std.proofs.Common.{◌∙◌, ◌+◌, ◌-◌, ◌++◌, ap}
 use Rattle.target_state.specs.Commit.{marks_from}
 use Rattle.target_state.proofs.Listing.{marks_step}
 use Rattle.target_state.proofs.committing.marks.Goals as goal

@@ -1,8 +1,7 @@
-use Rattle.std.proofs.Common.{◌≡◌, sym, subst}
 use Rattle.target_disk.specs.Store.{following}
 use Rattle.target_disk.proofs.Opening.{stands_opens}
 use Rattle.target_state.specs.Commit.{packed}
-use Rattle.target_node.specs.Node.{saved, StandsAs}
+use Rattle.target_node.specs.Node.{saved}
 use Rattle.target_node.proofs.Pouring.{opens_as_it_did}
 use Rattle.target_node.proofs.node.Node.sync.Goals as goal
 

@@ -8,7 +8,7 @@ use Rattle.outside.specs.Causes.{Rose}
 use Rattle.outside.specs.Disk.{Shown, Stays}
 use Rattle.target_disk.specs.Draft.{Begun, put_len}
 use Rattle.target_disk.specs.Tables.{Saved, image_most}
-use Rattle.target_disk.specs.Store.{HasPut, Stands, OpensAs, OpensAsEither, CommitCauses, PutFlags}
+use Rattle.target_disk.specs.Store.{HasPut, Stands, OpensAs, OpensAsEither, CommitCauses, CommitFlags}
 use Rattle.target_disk.specs.declared.store.CommitFault.{CommitFault}
 use Rattle.target_disk.specs.declared.store.CommitFault.TheVariants as fault
 use Rattle.object_store.specs.ImageText.{image_text}
@@ -67,12 +67,12 @@ is_some p b is = subst (λ (o : Option Begun). IsSome o) (sym is) refl
 -- ---- a call of the store that failed
 
 pub breaks : (size : ℕ) (x y : Shown) (f : CommitFault) → f ≡ fault.Disk → Stays x y → x.faults ≤ y.faults → CommitCauses {T = Unit {0}} x.faults y.faults size (Err f)
-    → (IsTrue x.honest → PutFlags {T = Unit {0}} x.failed y.failed (Err f)) → ((s : Saved) → Stands x s → OpensAs y s) → Breaks x y
+    → (IsTrue x.honest → CommitFlags {T = Unit {0}} x.failed y.failed (Err f)) → ((s : Saved) → Stands x s → OpensAs y s) → Breaks x y
 breaks size x y f is stays later causes flags opens = record {
   stays = stays;
   later = later;
   rose = (subst (λ (f : CommitFault). CommitCauses {T = Unit {0}} x.faults y.faults size (Err f)) is causes).1;
-  flag = λ h. subst (λ (f : CommitFault). PutFlags {T = Unit {0}} x.failed y.failed (Err f)) is (flags h);
+  flag = λ h. subst (λ (f : CommitFault). CommitFlags {T = Unit {0}} x.failed y.failed (Err f)) is (flags h);
   opens = opens;
 }
 

@@ -1,4 +1,4 @@
-use Rattle.std.proofs.Common.{◌+◌, length}
+use Rattle.std.proofs.Common.{◌+◌, ◌∙◌, sym, length}
 use Rattle.target_disk.specs.Draft.{put_len}
 use Rattle.target_node.proofs.Pouring.{is_some, breaks, never_full}
 use Rattle.target_node.proofs.putting.put.Goals as goal
@@ -7,7 +7,7 @@ pub returns-in-Ok : goal.returns-in-Ok
 returns-in-Ok g c = record {
   stays = c.put.ensures.stays;
   later = c.put.ensures.later;
-  flag = c.in-Ok.ensures.flags;
+  flag = λ h. (c.in-Ok.ensures.flags h).1 ∙ sym (c.in-Ok.ensures.flags h).0;
   begun = is_some c.put.new.self.draft c.in-Ok.ensures.draft.0 c.in-Ok.ensures.draft.1;
   grows = c.in-Ok.ensures.grows;
   stands = c.in-Ok.ensures.stands;

@@ -2,3 +2,4 @@ pub mod Lengths
 pub mod Chunking
 pub mod Appending
 pub mod Listing
+pub mod Bounds

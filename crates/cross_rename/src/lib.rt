@@ -8,5 +8,6 @@
 
 mod planner;
 mod renames;
+mod walks;
 
 pub use planner::RenamePlanner;

@@ -6,8 +6,10 @@ ghost use Rattle.plan_base.specs.Told.{untold};
 ghost use Rattle.plan_base.specs.Fitting.{fits_asked};
 ghost use Rattle.plan_base.specs.Planners.{reached, step_after, after_fact, IsAsked};
 ghost use Rattle.cross_rename.specs.Moves.{IsRename};
+ghost use Rattle.cross_rename.specs.Kept.{MayKeep};
 
 use crate::renames::rename;
+use crate::walks::Walked;
 use fid_space::Cluster;
 use out_update::UpdateResult;
 use plan_base::{Outcome, PlanState, Stop};
@@ -20,9 +22,12 @@ use tree_model::Op;
 #[derive(Drop)]
 pub struct RenamePlanner {
     state: PlanState,
+    /// How far the walk came; none before it begins, and after want of memory.
+    walked: Option<Walked>,
 }
 
 impl Model for RenamePlanner {
+    ghost use Rattle.cross_rename.specs.Kept.{Keeps};
     ghost use Rattle.plan_base.specs.Planners.{Planning, coded_planning};
 
     ghost Value = { Planning };
@@ -30,6 +35,8 @@ impl Model for RenamePlanner {
     ghost coded = { coded_planning };
 
     ghost view = { λ p. p.state };
+
+    ghost invariant = { λ p. Keeps p.state p.walked };
 }
 
 impl RenamePlanner {
@@ -45,6 +52,7 @@ impl RenamePlanner {
     {
         Ok(RenamePlanner {
             state: PlanState::new(alloc, cluster, op, batch)?,
+            walked: None,
         })
     }
 
@@ -66,15 +74,20 @@ impl RenamePlanner {
         // What was told was heard in results.
         ensures heard { OnOk result (IsHeard self.new.told) }
     {
+        let mut walked = self.walked.take();
         self.state.hear(fact)?;
-        let outcome = outcome(&self.state);
-        self.state.go_on(outcome)
+        let outcome = outcome(&self.state, &mut walked);
+        let step = self.state.go_on(outcome)?;
+        self.walked = walked;
+        Ok(step)
     }
 }
 
 /// How far the checks of the rename come.
-fn outcome(plan: &PlanState) -> Result<Outcome, Stop>
-    ensures { Reaches (λ x. x) result (reached plan.now.targets plan.now.batch plan.now.op plan.now.told) }
+fn outcome(plan: &PlanState, walked: &mut Option<Walked>) -> Result<Outcome, Stop>
+    requires { MayKeep plan.now.told walked.old }
+    ensures reaches { Reaches (λ x. x) result (reached plan.now.targets plan.now.batch plan.now.op plan.now.told) }
+    ensures walked { MayKeep plan.now.told walked.new }
 {
     match plan.op() {
         Op::Rename {
@@ -82,7 +95,7 @@ fn outcome(plan: &PlanState) -> Result<Outcome, Stop>
             name,
             to_parent,
             to_name,
-        } => rename(plan, *parent, name, *to_parent, to_name),
+        } => rename(plan, walked, *parent, name, *to_parent, to_name),
         // `start` takes no other.
         _ => Err(Stop::Memory),
     }

@@ -5,7 +5,9 @@ ghost use Rattle.plan_base.specs.Stops.{Reaches};
 ghost use Rattle.plan_base.specs.Asks.{answer};
 ghost use Rattle.plan_base.specs.Planning.{settled, is_dir_seen, layout_seen, released, changes_parent, parent_change, moved_with, over_asks, place_asks, move_asks, rename_asks};
 ghost use Rattle.cross_rename.specs.Moves.{move_of};
+ghost use Rattle.cross_rename.specs.Kept.{MayKeep};
 
+use crate::walks::{Walked, walk};
 use fid_space::Fid;
 use out_update::Parts;
 use plan_base::{Outcome, PlanState, Seen, Stop, entry_at, is_directory, node_place, stripes_gone};
@@ -70,12 +72,15 @@ fn nothing(alloc: Global) -> Outcome
 /// Moves a name.
 pub(crate) fn rename(
     plan: &PlanState,
+    walked: &mut Option<Walked>,
     parent: Fid,
     name: &Name,
     to_parent: Fid,
     to_name: &Name,
 ) -> Result<Outcome, Stop>
-    ensures { Reaches (λ x. x) result (answer plan.now.told (rename_asks plan.now.targets plan.now.batch parent name.now to_parent to_name.now)) }
+    requires { MayKeep plan.now.told walked.old }
+    ensures reaches { Reaches (λ x. x) result (answer plan.now.told (rename_asks plan.now.targets plan.now.batch parent name.now to_parent to_name.now)) }
+    ensures walked { MayKeep plan.now.told walked.new }
 {
     let facts = plan.facts();
     let from = facts.directory(parent)?;
@@ -95,17 +100,25 @@ pub(crate) fn rename(
         moved,
         node,
     };
-    move_to(plan, moving, name, to_name)
+    move_to(plan, walked, moving, name, to_name)
 }
 
 /// The walk, where a directory changes its parent, and what comes behind it.
-fn move_to(plan: &PlanState, m: Moving, name: &Name, to_name: &Name) -> Result<Outcome, Stop>
-    ensures { Reaches (λ x. x) result (answer plan.now.told (move_asks (move_of plan.now.targets plan.now.batch m name.now to_name.now))) }
+fn move_to(
+    plan: &PlanState,
+    walked: &mut Option<Walked>,
+    m: Moving,
+    name: &Name,
+    to_name: &Name,
+) -> Result<Outcome, Stop>
+    requires { MayKeep plan.now.told walked.old }
+    ensures reaches { Reaches (λ x. x) result (answer plan.now.told (move_asks (move_of plan.now.targets plan.now.batch m name.now to_name.now))) }
+    ensures walked { MayKeep plan.now.told walked.new }
 {
     if !changes_parent(m) {
         return place(plan, m, name, to_name);
     }
-    plan.facts().walk(m.moved, m.to_parent)?;
+    walk(plan.facts(), walked, m.moved, m.to_parent)?;
     place(plan, m, name, to_name)
 }
 

@@ -1,15 +1,14 @@
 -- A node that a planner asks for isn't known to it.
-use Rattle.std.proofs.Common.{◌≡◌, ℕ, zero, suc, ◌==◌, ◌&&◌, ◌++◌, Bool, true, false, if◌then◌else◌, Option, Some, None, Result, Ok, Err, List, refl, sym, ap, subst, ◌∙◌}
+use Rattle.std.proofs.Common.{◌≡◌, ℕ, zero, suc, ◌==◌, ◌&&◌, ◌++◌, Bool, true, false, if◌then◌else◌, Option, Some, None, Result, Ok, Err, List, refl, sym, subst}
 use Rattle.std.specs.FinMap.{get}
 use Rattle.fid_space.specs.declared.fid.Fid.{Fid}
-use Rattle.tree_model.specs.declared.errno.Errno.TheVariants.{ENOENT, ENOTDIR, EINVAL, ELOOP}
+use Rattle.tree_model.specs.declared.errno.Errno.TheVariants.{ENOTDIR, EINVAL, ELOOP}
 use Rattle.tree_model.specs.Tree.{same_fid, root_fid}
 use Rattle.object_store.specs.Meaning.{is_directory}
 use Rattle.striped_dir.specs.declared.layout.Layout.{Layout}
 use Rattle.striped_dir.specs.Layouts.{laid}
 use Rattle.plan_base.specs.declared.seen.Seen.{Seen}
 use Rattle.plan_base.specs.declared.outcome.Outcome.{Outcome}
-use Rattle.plan_base.specs.declared.question.Question.{Question}
 use Rattle.plan_base.specs.declared.question.Question.TheVariants as question
 use Rattle.plan_base.specs.declared.question.Stop.{Stop}
 use Rattle.plan_base.specs.declared.question.Stop.TheVariants as stop

@@ -1,5 +1,5 @@
 -- What a planner keeps of a walk, and when it may: what more is told leaves what the walk passed as it was.
-use Rattle.std.specs.Prelude.{◌≡◌, ℕ, Option, Some, None}
+use Rattle.std.specs.Prelude.{◌≡◌, Option, Some, None}
 use Rattle.std.specs.FinMap.{get}
 use Rattle.fid_space.specs.declared.fid.Fid.{Fid}
 use Rattle.plan_base.specs.declared.seen.Seen.{Seen}

@@ -18,7 +18,7 @@ use Rattle.update_record.specs.declared.operation.Record.{Record}
 use Rattle.update_record.specs.Spelling.{record_text, FitsRecord, spells_record}
 use Rattle.update_record.specs.Values.{record_value}
 use Rattle.update_record.specs.Decoding.{judge_record}
-use Rattle.state_image.specs.StateText.{is_own, IsOwn}
+use Rattle.state_image.specs.StateText.{IsOwn}
 use Rattle.state_image.specs.StateReading.{moved_by, no_record, record_in, is_own_value, payload_at, maybe_payload, payloads_at}
 
 and_false : (b : Bool) → (b && false) ≡ false

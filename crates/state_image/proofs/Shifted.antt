@@ -1,9 +1,9 @@
 -- What a part failed with, placed in the whole.
-use Rattle.std.proofs.Common.{◌≡◌, ℕ, ◌+◌, Result, Ok, Err, refl, ap, ◌∙◌, sym}
+use Rattle.std.proofs.Common.{◌≡◌, ℕ, ◌+◌, Result, Err, ap, ◌∙◌, sym}
 use Rattle.object_store.specs.declared.fault.ImageFault.{ImageFault}
 use Rattle.object_store.specs.declared.fault.ImageFault.TheVariants as fault
 use Rattle.object_store.specs.ImageReading.{◌>>=◌, Fails}
-use Rattle.state_image.specs.StateReading.{moved, moved_by, IsMoved}
+use Rattle.state_image.specs.StateReading.{moved_by, IsMoved}
 
 pub moves : {A : Type 0} (place : ℕ) (e told : ImageFault) (read : Result A ImageFault) → Fails e read → IsMoved place e told → Fails told (moved_by place read)
 moves place e fault.Memory read h m = tt

@@ -1,10 +1,10 @@
 -- A state image that was written is read again.
-use Rattle.std.proofs.Common.{◌≡◌, ℕ, ◌-◌, ◌^◌, ◌<◌, List, [], ◌++◌, length, take, drop, Option, Some, Ok, refl, sym, ap, ◌∙◌, subst, arith, length-append}
+use Rattle.std.proofs.Common.{◌≡◌, ℕ, ◌-◌, ◌^◌, ◌<◌, List, [], ◌++◌, length, Some, Ok, refl, sym, ap, ◌∙◌, arith}
 use Rattle.std.specs.Int.{w32}
 use Rattle.std.proofs.lemmas.List.{append-nil, drop_at}
-use Rattle.byte_grammar.specs.Numbers.{word, zeros}
+use Rattle.byte_grammar.specs.Numbers.{zeros}
 use Rattle.byte_grammar.specs.declared.verdict.Verdict.TheVariants as verdict
-use Rattle.byte_grammar.proofs.Bytes.{wide32, length-zeros}
+use Rattle.byte_grammar.proofs.Bytes.{wide32}
 use Rattle.llog_store.specs.Log.{Log, IsLog, log_text, spells}
 use Rattle.llog_store.specs.Reading.{log_at}
 use Rattle.object_store.specs.Objects.{ObjectMap}

@@ -1,5 +1,5 @@
 -- How long a state image is.
-use Rattle.std.proofs.Common.{◌≡◌, ℕ, ◌+◌, List, ◌++◌, length, arith, length-append}
+use Rattle.std.proofs.Common.{◌≡◌, ◌+◌, ◌++◌, length, arith, length-append}
 use Rattle.std.specs.Int.{w32}
 use Rattle.byte_grammar.specs.Numbers.{word, zeros}
 use Rattle.byte_grammar.proofs.Bytes.{wide32, length-zeros}

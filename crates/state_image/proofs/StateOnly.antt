@@ -1,9 +1,9 @@
 -- A state image that is read was written so.
-use Rattle.std.proofs.Common.{◌≡◌, ℕ, ◌+◌, ◌-◌, ◌==◌, ◌^◌, ◌<◌, ◌≤◌, List, [], ◌++◌, length, take, drop, Option, Some, None, Result, Ok, Err, refl, sym, ap, ◌∙◌, subst, append_assoc, arith, length-append}
+use Rattle.std.proofs.Common.{◌≡◌, ℕ, ◌+◌, ◌-◌, ◌==◌, ◌^◌, ◌<◌, ◌≤◌, List, [], ◌++◌, length, take, drop, Some, None, Result, Ok, Err, refl, sym, ap, ◌∙◌, subst}
 use Rattle.std.specs.Int.{w32}
 use Rattle.std.proofs.lemmas.Bool.{eqb-true}
 use Rattle.std.proofs.lemmas.List.{append-nil, drop_at, nil_from_length}
-use Rattle.byte_grammar.specs.Numbers.{IsBytes, word, zeros}
+use Rattle.byte_grammar.specs.Numbers.{IsBytes, word}
 use Rattle.byte_grammar.specs.declared.verdict.Verdict.TheVariants as verdict
 use Rattle.byte_grammar.proofs.Bytes.{wide32, IsBytes-drop}
 use Rattle.llog_store.specs.Log.{Log, IsLog, log_text, spells}
@@ -11,7 +11,6 @@ use Rattle.llog_store.specs.declared.fault.LlogFault.{LlogFault}
 use Rattle.llog_store.specs.declared.fault.LlogFault.TheVariants as llog
 use Rattle.llog_store.specs.Reading.{log_at}
 use Rattle.llog_store.specs.Changes.{live_payload, live_place}
-use Rattle.object_store.specs.declared.fault.ImageFault.{ImageFault}
 use Rattle.object_store.specs.declared.fault.ImageFault.TheVariants as fault
 use Rattle.object_store.specs.Objects.{ObjectMap}
 use Rattle.object_store.specs.ImageText.{image_text, FitsObjects}

@@ -1,8 +1,8 @@
 ghost use Rattle.std.specs.Prelude.{◌≡◌, ◌<◌};
 ghost use Rattle.object_store.specs.Meaning.{is_directory};
 ghost use Rattle.tree_model.specs.Step.{layout_fault, stripes_fault};
-ghost use Rattle.plan_base.specs.Stops.{Reaches, Passes};
-ghost use Rattle.plan_base.specs.Asks.{directory_told, none_told, empty_told, names_from, all_names_told, walk_told, parent_seen};
+ghost use Rattle.plan_base.specs.Stops.{Reaches};
+ghost use Rattle.plan_base.specs.Asks.{directory_told, none_told, empty_told, names_from, all_names_told};
 
 use crate::entry_list::EntryList;
 use crate::facts::Facts;
@@ -73,39 +73,5 @@ impl Facts {
             entries.extend(alloc, self.names(fid, layout, part)?)?;
         }
         Ok(entries)
-    }
-
-    /// Walks from a directory up to the root, past at most 1,024 directories. Each is compared with the moved
-    /// one before it is asked for.
-    pub fn walk(&self, moved: Fid, from: Fid) -> Result<(), Stop>
-        ensures { Passes result (walk_told self.now moved 1023 from) }
-    {
-        let mut at = from;
-        for _asked in 0..1023_usize {
-            if at == Fid::ROOT {
-                return Ok(());
-            }
-            if at == moved {
-                return Err(Stop::Refused(Errno::EINVAL));
-            }
-            at = parent_of(self.node(at)?);
-        }
-        if at == Fid::ROOT {
-            return Ok(());
-        }
-        if at == moved {
-            return Err(Stop::Refused(Errno::EINVAL));
-        }
-        Err(Stop::Refused(Errno::ELOOP))
-    }
-}
-
-/// The parent of a directory.
-fn parent_of(seen: Option<Seen>) -> Fid
-    ensures { result ≡ parent_seen seen }
-{
-    match seen {
-        Some(seen) => seen.body.fid,
-        None => Fid::ROOT,
     }
 }

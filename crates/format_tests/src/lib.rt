@@ -3,8 +3,13 @@
 #![tactic(auto)]
 
 #[cfg(test)]
+mod digits;
+mod fixtures;
+#[cfg(test)]
 mod logs;
 #[cfg(test)]
 mod records;
 #[cfg(test)]
 mod updates;
+
+pub use fixtures::changed;

@@ -1,5 +1,6 @@
+use crate::digits::spelled;
+use crate::fixtures::changed;
 use fid_space::Bytes;
-use std::alloc::{AllocError as Memory, Global};
 use std::test::Fail;
 use tree_model::{Errno, Reply};
 use update_record::{
@@ -19,44 +20,6 @@ const RECORD: &str =
 /// writer 4 on targets 0 and 1, and a reply with ENOTDIR.
 const HELD: &str =
     "31454e4d 03000000 01000000 01000000 00000000 05000000 0600000000000000 02000000 00000000 0000000000000000 28000000 00000000 0100000000000000 0200000000000000 04000000 03000000 0101debd 0100 0000 14000000 00000000";
-
-/// Adds the bytes that these hexadecimal digits spell.
-fn put_digits(out: &mut Vec<u8>, digits: &str) -> Result<(), Memory> {
-    let mut high = None;
-    for digit in digits.as_bytes() {
-        let value = match *digit {
-            b'a'..=b'f' => digit.wrapping_sub(b'a').wrapping_add(10),
-            _ => digit.wrapping_sub(b'0'),
-        };
-        match high {
-            None => high = Some(value),
-            Some(first) => {
-                out.extend_from_slice(&[value.wrapping_add(16u8.wrapping_mul(first))])?;
-                high = None;
-            }
-        }
-    }
-    Ok(())
-}
-
-/// The bytes of a text with words of hexadecimal digits.
-fn spelled(alloc: Global, text: &str) -> Result<Vec<u8>, Memory> {
-    let mut out = Vec::new(alloc);
-    for word in text.split(' ') {
-        put_digits(&mut out, word)?;
-    }
-    Ok(out)
-}
-
-/// The same bytes, with another at a place.
-fn changed(alloc: Global, bytes: &[u8], at: usize, with: u8) -> Result<Vec<u8>, Memory> {
-    let mut out = Vec::new(alloc);
-    for (i, byte) in bytes.iter().enumerate() {
-        let new = if i == at { with } else { *byte };
-        out.extend_from_slice(&[new])?;
-    }
-    Ok(out)
-}
 
 #[test]
 fn reads_a_record_of_two_parts(rt: HostRuntime) -> Result<(), Fail> {

@@ -1,3 +1,5 @@
+use crate::digits::spelled;
+use crate::fixtures::changed;
 use fid_space::{Bytes, Fid};
 use out_update::{
     Decoder, Kind, Params, Parts, Progress, ReplyDecoder, ReplyProgress, Update, UpdateRequest,
@@ -13,44 +15,6 @@ const VECTOR: &str =
 
 const VECTOR_TEXT: &str =
     "request 1\nupdate insert [0x200000007:0x1:0x0] batch 1\nparam 61\nparam 00040000020000000100000000000000\nrest 0\n";
-
-/// Adds the bytes that these hexadecimal digits spell.
-fn put_digits(out: &mut Vec<u8>, digits: &str) -> Result<(), Memory> {
-    let mut high = None;
-    for digit in digits.as_bytes() {
-        let value = match *digit {
-            b'a'..=b'f' => digit.wrapping_sub(b'a').wrapping_add(10),
-            _ => digit.wrapping_sub(b'0'),
-        };
-        match high {
-            None => high = Some(value),
-            Some(first) => {
-                out.extend_from_slice(&[value.wrapping_add(16u8.wrapping_mul(first))])?;
-                high = None;
-            }
-        }
-    }
-    Ok(())
-}
-
-/// The bytes of a text with words of hexadecimal digits.
-fn spelled(alloc: Global, text: &str) -> Result<Vec<u8>, Memory> {
-    let mut out = Vec::new(alloc);
-    for word in text.split(' ') {
-        put_digits(&mut out, word)?;
-    }
-    Ok(out)
-}
-
-/// The same bytes, with another at a place.
-fn changed(alloc: Global, bytes: &[u8], at: usize, with: u8) -> Result<Vec<u8>, Memory> {
-    let mut out = Vec::new(alloc);
-    for (i, byte) in bytes.iter().enumerate() {
-        let new = if i == at { with } else { *byte };
-        out.extend_from_slice(&[new])?;
-    }
-    Ok(out)
-}
 
 /// Adds a line for the answer to a piece behind so many bytes. False where more is to come.
 fn answer(

@@ -2,7 +2,10 @@
 //! is proved once, and not once more together with its tests.
 #![tactic(auto)]
 
+mod fixtures;
 #[cfg(test)]
 mod objects;
 #[cfg(test)]
 mod striped;
+
+pub use fixtures::fid;

@@ -1,6 +1,7 @@
 ghost use Rattle.std.specs.Prelude.{All, IfOk};
 ghost use Rattle.out_update.specs.Spelling.{FitsUpdate};
 
+use crate::fixtures::fid;
 use byte_grammar::{padding_of, put16, put32, put64};
 use fid_space::{Bytes, Cluster, Fid};
 use object_store::Objects;
@@ -12,12 +13,6 @@ use tree_model::{Name, Reply};
 mod images;
 mod reads;
 mod updates;
-
-/// A client's FID on the first target, and the FID of zeros for 0.
-fn fid(oid: u32) -> Fid {
-    let seq = if oid == 0 { 0 } else { 0x2_0000_0400 };
-    Fid { seq, oid, ver: 0 }
-}
 
 fn put_fid(out: &mut Vec<u8>, fid: Fid) -> Result<(), Memory> {
     put64(out, fid.seq)?;

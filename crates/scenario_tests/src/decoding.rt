@@ -1,3 +1,4 @@
+use crate::fixtures::changed;
 use decode_mode::{
     decode_log, decode_record, decode_request, one_answer_per_log, one_answer_per_record,
     one_answer_per_request,
@@ -28,15 +29,6 @@ fn logs(alloc: Global, bytes: &[u8], end: Status, text: &str) -> Result<bool, Fa
     let mut output = TextSink::new(alloc, &[])?;
     let status = decode_log(alloc, &mut input, &mut output);
     Ok(status == end && output.bytes() == text.as_bytes())
-}
-
-/// The bytes with another one at a place.
-fn changed(alloc: Global, bytes: &[u8], at: usize, byte: u8) -> Result<Vec<u8>, Fail> {
-    let mut other = Vec::from_slice(alloc, bytes)?;
-    if let Some(old) = other.as_mut_slice().get_mut(at) {
-        *old = byte;
-    }
-    Ok(other)
 }
 
 #[test]

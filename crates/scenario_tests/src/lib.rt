@@ -5,7 +5,10 @@
 
 #[cfg(test)]
 mod decoding;
+mod fixtures;
 #[cfg(test)]
 mod lines;
 #[cfg(test)]
 mod model;
+
+pub use fixtures::changed;

@@ -1,29 +1,14 @@
+use crate::fixtures::sample;
 use fid_space::{Bytes, Cluster};
 use llog_store::Llog;
 use object_store::{ImageFault, Objects};
-use reply_cache::{Judgement, Seats};
+use reply_cache::Judgement;
 use state_image::{
     Front, Image, a_state_is_as_long_as_its_parts, a_state_is_read_back, a_state_was_written_so,
     one_spelling_per_front,
 };
 use std::test::Fail;
 use tree_model::{Errno, Reply};
-
-/// A front of 80 bytes: target 1 of 2, with one seat.
-fn sample(cluster: Cluster) -> Front {
-    let mut seats = Seats::new();
-    seats.put(7, 9, &Reply::Err(Errno::EEXIST));
-    Front {
-        cluster,
-        index: 1,
-        epoch: 6,
-        transno: 3,
-        clock: 4,
-        next_batch: 5,
-        mark: 2,
-        seats,
-    }
-}
 
 #[test]
 fn reads_what_it_wrote(rt: HostRuntime) -> Result<(), Fail> {

@@ -54,6 +54,10 @@ file_node = record { dir = false; mode = 0o644; uid = 0; gid = 0; links = 1; par
 abbrev pub base : Tree
 base = record { nodes = insert empty root_fid root_node; entries = empty }
 
+-- no node, and no entry
+abbrev pub bare : Tree
+bare = record { nodes = empty; entries = empty }
+
 -- the tree of two lists
 abbrev pub made : List (Fid × Node) → List (Fid × Names) → Tree
 made nodes entries = record { nodes = from_entries nodes; entries = from_entries entries }

@@ -3,9 +3,11 @@
 //! that an operation is on.
 //!
 //! The layer above may rest on this: `apply` makes the step of the definitions and gives its reply,
-//! and operations, replies and trees have one text each.
+//! a tree is built up from stored nodes, entries and attributes as they are, and operations, replies
+//! and trees have one text each.
 #![tactic(auto)]
 
+mod building;
 mod change;
 mod checks;
 mod directory;

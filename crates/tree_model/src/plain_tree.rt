@@ -1,7 +1,7 @@
 ghost use Rattle.std.specs.Prelude.{◌≡◌, ◌++◌, IfOk, OnOk, OnErr};
 ghost use Rattle.std.specs.Option.{option_map};
 ghost use Rattle.std.specs.FinMap as map;
-ghost use Rattle.tree_model.specs.Tree.{Tree, Grown, base, named, names_of};
+ghost use Rattle.tree_model.specs.Tree.{Tree, Grown, bare, base, named, names_of};
 ghost use Rattle.fid_space.specs.Fronts.{IsFront};
 ghost use Rattle.tree_model.specs.TreeText.{tree_text};
 ghost use Rattle.tree_model.specs.Changes.{Change, changed, changed_all, taken_name};
@@ -50,6 +50,19 @@ impl PlainTree {
             nodes,
             directories: BTreeMap::new(alloc),
         })
+    }
+
+    /// The tree without a node and without an entry, in which there isn't even the root. One that is kept in
+    /// parts is built up from it by `add_node`, `add_entry` and `add_attribute`.
+    pub fn empty(alloc: Global, cluster: Cluster) -> PlainTree
+        ensures { result ≡ record { targets = cluster; tree = bare } }
+    {
+        PlainTree {
+            alloc,
+            cluster,
+            nodes: BTreeMap::new(alloc),
+            directories: BTreeMap::new(alloc),
+        }
     }
 
     /// The cluster whose places the tree's FIDs have.

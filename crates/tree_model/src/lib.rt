@@ -22,8 +22,6 @@ mod plain_tree;
 mod reading;
 mod reply;
 mod spelling;
-#[cfg(test)]
-mod tests;
 mod text;
 mod worked;
 

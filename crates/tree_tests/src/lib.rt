@@ -3,9 +3,12 @@
 //! together with its tests.
 #![tactic(auto)]
 
+mod fixtures;
 #[cfg(test)]
 mod operations;
 #[cfg(test)]
 mod trees;
 #[cfg(test)]
 mod words;
+
+pub use fixtures::node;

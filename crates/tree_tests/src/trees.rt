@@ -1,8 +1,8 @@
+use crate::fixtures::node;
 use crate::operations::read;
 use fid_space::{Bytes, Cluster, Fid};
-use std::alloc::Global;
 use std::test::Fail;
-use tree_model::{Name, Node, PlainTree, Xattrs};
+use tree_model::{Name, PlainTree};
 
 #[test]
 fn replies_and_shows_the_tree(rt: HostRuntime) -> Result<(), Fail> {
@@ -45,19 +45,6 @@ fn replies_and_shows_the_tree(rt: HostRuntime) -> Result<(), Fail> {
     tree.print(&mut out)?;
     assert_eq!(rt; out.bytes(), want.as_bytes());
     Ok(())
-}
-
-/// A directory or a file of the root, without attributes.
-fn node(alloc: Global, dir: bool) -> Node {
-    Node {
-        dir,
-        mode: 0o750,
-        uid: 7,
-        gid: 8,
-        links: 2,
-        parent: Fid::ROOT,
-        xattrs: Xattrs::new(alloc),
-    }
 }
 
 #[test]

@@ -23,8 +23,6 @@ mod stream;
 mod sure;
 mod take;
 mod tally;
-#[cfg(test)]
-mod tests;
 mod text_sink;
 mod text_source;
 

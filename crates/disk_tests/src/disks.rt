@@ -1,4 +1,4 @@
-use crate::{Disk, DiskFault, FileDisk, MemoryDisk, Plant, SureDisk};
+use outside::{Disk, DiskFault, FileDisk, MemoryDisk, Plant, SureDisk};
 use std::fs::{self, File};
 use std::test::Fail;
 use std::{env, process};

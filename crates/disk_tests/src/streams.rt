@@ -1,11 +1,9 @@
-use crate::{
+use outside::{
     Sink, SinkFault, Source, SourceFault, StreamSink, StreamSource, TakeFault, TextSink,
     TextSource, put_all, take_all,
 };
 use std::io::{self, ErrorKind, Read, Write};
 use std::test::Fail;
-
-mod disks;
 
 /// A reader and a writer that fail.
 #[derive(Drop)]

@@ -9,8 +9,6 @@ mod blocks;
 mod chain;
 mod laws;
 mod marks;
-#[cfg(test)]
-mod tests;
 
 pub use blocks::{Blocks, ChainFault, Full};
 pub use chain::{ChainReadFault, ChainWriteFault};

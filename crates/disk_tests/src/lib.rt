@@ -1,7 +1,9 @@
-//! Tests of sources, sinks and disks. They stand beside the crate that they test, so that it is proved once,
-//! and not once more together with its tests.
+//! Tests of sources, sinks and disks, and of chains of blocks. They stand beside the crates that they test, so
+//! that a crate is proved once, and not once more together with its tests.
 #![tactic(auto)]
 
+#[cfg(test)]
+mod chains;
 #[cfg(test)]
 mod disks;
 #[cfg(test)]

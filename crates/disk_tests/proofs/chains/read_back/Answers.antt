@@ -2,7 +2,7 @@ use Rattle.std.specs.Prelude.{[]}
 use Rattle.std.proofs.Common.{◌≤◌, arith, drop}
 use Rattle.chain_blocks.specs.Chains.{numbers}
 use Rattle.chain_blocks.proofs.Writing.{took_chain}
-use Rattle.chain_blocks.proofs.tests.read_back.Goals as goal
+use Rattle.disk_tests.proofs.chains.read_back.Goals as goal
 
 pub write_chain-requires-clause-within : goal.write_chain-requires-clause-within
 write_chain-requires-clause-within c = let h = c.in-Ok.ensures in omega (arith, h.size)

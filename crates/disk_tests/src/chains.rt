@@ -1,6 +1,6 @@
 ghost use Rattle.std.specs.Prelude.{◌<◌, length};
 
-use crate::{Blocks, ChainFault, ChainWriteFault, Full};
+use chain_blocks::{Blocks, ChainFault, ChainWriteFault, Full};
 use fid_space::Bytes;
 use outside::MemoryDisk;
 use std::alloc::Global;

@@ -14,8 +14,6 @@ mod pour;
 mod read;
 mod store;
 mod table;
-#[cfg(test)]
-mod tests;
 
 pub use laws::{a_disk_that_stands_opens_so, a_settled_disk_opens_so, a_settled_disk_stands};
 pub use store::{CommitFault, FormatFault, OpenStoreFault, Store};

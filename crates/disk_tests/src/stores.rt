@@ -1,10 +1,10 @@
 ghost use Rattle.std.specs.Prelude.{◌≡◌, length, IfOk, IsSome};
 
-use crate::{CommitFault, FormatFault, OpenStoreFault, Store};
 use fid_space::Bytes;
 use outside::{Disk, MemoryDisk, Plant, SureDisk};
 use std::alloc::{AllocError as Memory, Global};
 use std::test::Fail;
+use target_disk::{CommitFault, FormatFault, OpenStoreFault, Store};
 
 /// An image of nine blocks.
 const LONG: usize = 33_000;

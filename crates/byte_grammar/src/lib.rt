@@ -21,6 +21,3 @@ pub use numbers::{
 pub use position::{Position, Reached, scan, unless};
 pub use values::{BuildFault, part, u16_at, u32_at, u64_at};
 pub use verdict::{Reason, Refusal, Verdict};
-
-#[cfg(test)]
-mod tests;

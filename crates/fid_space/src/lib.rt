@@ -25,6 +25,3 @@ pub use lists::{Fids, Numbers};
 pub use places::{NoHome, client_fid, client_fids_have_their_place, is_client, locate, stripe_fid};
 pub use targets::{Targets, members_by_parts, targets_are_their_members};
 pub use text::{hex_digit, print_hex, print_hex_digits, print_number};
-
-#[cfg(test)]
-mod tests;

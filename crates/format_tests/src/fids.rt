@@ -1,4 +1,9 @@
-use super::*;
+use fid_space::{
+    Bytes, Class, Cluster, Fid, FidFault, Fids, NoHome, Numbers, Targets, class_of, client_fid,
+    client_fids_have_their_place, hex_digit, is_client, locate, members_by_parts, one_text_per_fid,
+    print_hex, print_hex_digits, print_home, print_number, stripe_fid, stripe_fids_are_their_own,
+    targets_are_their_members,
+};
 use std::test::Fail;
 
 #[test]

@@ -1,4 +1,7 @@
-use super::*;
+use byte_grammar::{
+    BuildFault, number8, number16, number32, number64, padding_of, part, put_zeros, put16, put32,
+    put64, set_byte, u16_at, u32_at, u64_at,
+};
 use std::test::Fail;
 
 #[test]

@@ -179,6 +179,34 @@ fn a_log_is_read_again(rt: HostRuntime) -> Result<(), Fail> {
     Ok(())
 }
 
+/// The same bytes, copied in pieces of at most so many. There are no more pieces than bytes.
+fn copied(alloc: Global, bytes: &[u8], most: usize) -> Result<Vec<u8>, Fail> {
+    let mut copy = Vec::new(alloc);
+    let mut rest = bytes;
+    for _i in 0..bytes.len() {
+        let (piece, behind) = rest.split_at(most.min(rest.len()));
+        copy.extend_from_slice(piece)?;
+        rest = behind;
+    }
+    Ok(copy)
+}
+
+/// The spelling of a log is copied in pieces, and the log is read from the copy.
+#[test]
+fn a_log_in_pieces(rt: HostRuntime) -> Result<(), Fail> {
+    let bytes = padded(rt.alloc())?;
+    for most in [1, 7, 4_096] {
+        let copy = copied(rt.alloc(), bytes.as_slice(), most)?;
+        assert_eq!(rt; copy, bytes, "{most}");
+        let log = Llog::read(rt.alloc(), copy.as_slice())
+            .ok()
+            .ok_or("the log is read")?;
+        assert_eq!(rt; (log.records(), log.live()), (3, 3), "{most}");
+        assert_eq!(rt; log.payload(4), Some(b"ZZZ".as_slice()), "{most}");
+    }
+    Ok(())
+}
+
 /// What reading answers where two bytes are written over.
 fn refusal(alloc: Global, one: (usize, u8), other: (usize, u8)) -> Result<Option<LlogFault>, Fail> {
     let mut bytes = padded(alloc)?;

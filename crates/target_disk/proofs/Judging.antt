@@ -183,6 +183,13 @@ ends_short len blocks is =
     let most = leb-true len image_most two.1 in
     omega arith
 
+-- an image that ends in its chain is no longer than a store takes
+pub ends_most : (len blocks : ℕ) → ends_in len blocks ≡ true → len ≤ image_most
+ends_most len blocks is =
+    let one = and_right (leb len (block_len * blocks)) (ltb (block_len * blocks) (len + block_len) && leb len image_most) is in
+    let two = and_right (ltb (block_len * blocks) (len + block_len)) (leb len image_most) one.1 in
+    leb-true len image_most two.1
+
 pub is_book : (bytes : List ℕ) (t : Table) (book : Book) (len : ℕ) (links : List ℕ) (j : IsJudged links (t.head ∷ []) t.free book.blocks) → table_in bytes ≡ Some t → links ≡ t.links → book.head ≡ t.head → book.generation ≡ t.generation → len ≡ t.len → 1 ≤ t.generation → ends_in t.len (length (joined j.found.chains)) ≡ true → length bytes ≡ table_len → book.table.items ≡ bytes → length book.block.items ≡ block_len → book.draft ≡ None → IsBook bytes book len
 is_book bytes t book len links j is same head generation size positive ends long table block none =
     let found = j.found in
@@ -208,6 +215,7 @@ is_book bytes t book len links j is same head generation size positive ends long
       named = entry_from_table bytes t (Some (stands_for t (joined found.chains))) is (entry_ok t found positive judged_so ends);
       generation = sym generation;
       length = sym size;
+      most = subst (λ (n : ℕ). n ≤ image_most) (sym size) (ends_most t.len (length (joined found.chains)) ends);
       chain = all ∙ sym (image_from 4095 book fits);
       table = table;
       draft = none;

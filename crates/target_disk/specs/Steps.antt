@@ -1,9 +1,9 @@
 -- The steps of a commit, by what a store keeps in memory and what the disk shows after each.
-use Rattle.std.specs.Prelude.{◌≡◌, ◌+◌, ◌*◌, ◌<◌, ℕ, List, [], ◌∷◌, ◌++◌, false, Some, None, length, take, Result, OnOk, OnErr}
+use Rattle.std.specs.Prelude.{◌≡◌, ◌+◌, ◌*◌, ◌<◌, ◌≤◌, ℕ, List, [], ◌∷◌, ◌++◌, false, Some, None, length, take, Result, OnOk, OnErr}
 use Rattle.outside.specs.Disk.{Shown, settles}
 use Rattle.chain_blocks.specs.Chains.{Linked, Holds, block_len, joined, times}
 use Rattle.chain_blocks.specs.Stored.{IsCount, KeepsOthers, stored}
-use Rattle.target_disk.specs.Tables.{Saved, Entry, data_at, entry_in, is_open, block_count, table_len, opened}
+use Rattle.target_disk.specs.Tables.{Saved, Entry, data_at, entry_in, image_most, is_open, block_count, table_len, opened}
 use Rattle.target_disk.specs.Consistent.{Fits, IsTaken, Knows, begun_of, draft_chain, image_chain}
 use Rattle.target_disk.specs.Draft.{put_len}
 use Rattle.target_disk.specs.Store.{HasPut, OpensAsEither, Stands, following, next}
@@ -19,6 +19,7 @@ pub record IsBook (bytes : List ℕ) (book : Book) (len : ℕ) : Type 0 where
   pub named : entry_in bytes ≡ Some found
   pub generation : found.generation ≡ book.generation
   pub length : found.len ≡ len
+  pub most : len ≤ image_most
   pub chain : found.chain ≡ image_chain book
   pub table : book.table.items ≡ bytes
   pub draft : book.draft ≡ None

@@ -41,6 +41,7 @@ pub fn look<D: Disk>(disk: &mut D, table: &mut Vec<u8>) -> Result<bool, DiskFaul
 }
 
 /// Reads an image of so many bytes, which a chain holds.
+#[tactic(auto, using(crate::proofs::Looking::cut_short))]
 pub fn read_image<D: Disk>(
     alloc: Global,
     disk: &mut D,
@@ -53,6 +54,7 @@ pub fn read_image<D: Disk>(
     ensures keeps { Keeps (D.shown disk.old) (D.shown disk.new) }
     ensures cause { IsErrOf result ReadFault.Disk → Rose (D.shown disk.old).faults (D.shown disk.new).faults }
     ensures flags { IsTrue (D.shown disk.old).honest → (D.shown disk.old).failed ≡ false → ReadFlag (D.shown disk.new).failed result }
+    ensures most { IfOk result (λ v. length v ≤ len) }
     ensures image { IsTrue (D.shown disk.old).tells → (behind : List ℕ) → IsTrail blocks.now.links head (head ∷ behind) → IfOk result (λ v. v ≡ take len (stored (D.shown disk.old).content data_at (head ∷ behind))) }
 {
     let mut image = Bytes::new(alloc);

@@ -105,6 +105,7 @@ impl<D: Disk> Store<D> {
     pub fn open(alloc: Global, disk: D) -> Result<(Store<D>, Bytes), OpenStoreFault<D>>
         ensures ok { IfOk result (λ p. Opens (D.shown disk) (D.shown p.0.disk) p.1) }
         ensures begun { IfOk result (λ p. p.0.draft ≡ None) }
+        ensures fits { IfOk result (λ p. length p.1 ≤ image_most) }
         ensures settled { IfOk result (λ p. StaysSettled (D.shown disk) (D.shown p.0.disk)) }
         ensures err { IfErr result (λ e. FailsToOpen D.shown (D.shown disk) e) }
     {

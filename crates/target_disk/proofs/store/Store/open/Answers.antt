@@ -1,5 +1,5 @@
 use Rattle.std.specs.Prelude.{IsTrue, false}
-use Rattle.std.proofs.Common.{ℕ, List, ◌≡◌, ◌∙◌, refl, sym, subst}
+use Rattle.std.proofs.Common.{ℕ, List, ◌≡◌, ◌∙◌, refl, sym, subst, arith}
 use Rattle.std.proofs.lemmas.Bool.{cond-true, cond-false, false≢true}
 use Rattle.target_disk.specs.Calls.{Redoes}
 use Rattle.target_disk.specs.Reads.{Keeps}
@@ -111,6 +111,11 @@ returns-in-Ok-redo-clause-ok g c =
           subst (λ d. Keeps old d) (sym ((redoes still).shut (sym s.gate_is ∙ shut)).0) keeps;
       opens = λ tells. (saved_as book image, sees_opened old.content gate book image (seen tells), refl);
     }
+
+pub returns-in-Ok-redo-clause-fits : goal.returns-in-Ok-redo-clause-fits
+returns-in-Ok-redo-clause-fits g c =
+    let named : IsBook c.look.new.table.items c.in-Ok-Readable.book c.in-Ok-Readable.len = subst (λ v. IsVerdict c.look.new.table.items v) c.in-Ok-Readable.field-0-is c.in-Ok-Readable.ensures in
+    omega (arith, named.most, c.in-Ok-read_image.ensures.most)
 
 pub returns-in-Ok-redo-clause-settled : goal.returns-in-Ok-redo-clause-settled
 returns-in-Ok-redo-clause-settled g c =

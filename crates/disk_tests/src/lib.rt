@@ -6,7 +6,10 @@
 mod chains;
 #[cfg(test)]
 mod disks;
+mod fixtures;
 #[cfg(test)]
 mod stores;
 #[cfg(test)]
 mod streams;
+
+pub use fixtures::image_of;

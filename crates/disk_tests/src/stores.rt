@@ -1,8 +1,9 @@
-ghost use Rattle.std.specs.Prelude.{◌≡◌, length, IfOk, IsSome};
+ghost use Rattle.std.specs.Prelude.{◌≡◌, length, IsSome};
 
+use crate::fixtures::image_of;
 use fid_space::Bytes;
 use outside::{Disk, MemoryDisk, Plant, SureDisk};
-use std::alloc::{AllocError as Memory, Global};
+use std::alloc::Global;
 use std::test::Fail;
 use target_disk::{CommitFault, FormatFault, OpenStoreFault, Store};
 
@@ -11,13 +12,6 @@ const LONG: usize = 33_000;
 
 /// The most bytes of an image.
 const MOST: usize = 32_768_000;
-
-/// So many bytes of one value.
-fn image_of(alloc: Global, len: usize, value: u8) -> Result<Vec<u8>, Memory>
-    ensures { IfOk result (λ v. length v.items ≡ len) }
-{
-    vec![in alloc; value; len]
-}
 
 /// An image in four pieces of odd lengths.
 fn commit_pieces(

@@ -1,6 +1,7 @@
 use crate::fixtures::node;
 use crate::operations::read;
 use fid_space::{Bytes, Cluster, Fid};
+use std::alloc::Global;
 use std::test::Fail;
 use tree_model::{Name, PlainTree};
 
@@ -47,25 +48,29 @@ fn replies_and_shows_the_tree(rt: HostRuntime) -> Result<(), Fail> {
     Ok(())
 }
 
+/// The root with a file in it, without attributes.
+fn root_with(alloc: Global, name: &Name, file: Fid) -> Result<PlainTree, Fail> {
+    let mut tree = PlainTree::empty(alloc, Cluster::new(2).ok_or("a cluster")?);
+    tree.add_node(file, node(alloc, false))?;
+    tree.add_node(Fid::ROOT, node(alloc, true))?;
+    tree.add_entry(Fid::ROOT, name, file)?;
+    Ok(tree)
+}
+
 #[test]
 fn builds_a_tree_from_what_is_stored(rt: HostRuntime) -> Result<(), Fail> {
-    let alloc = rt.alloc();
     let file = Fid {
         seq: 0x2_0000_0400,
         oid: 1,
         ver: 0,
     };
-    let name = Name::new(alloc, b"a")?;
-    let mut tree = PlainTree::empty(alloc, Cluster::new(2).ok_or("a cluster")?);
-    tree.add_attribute(file, &name, b"lost")?;
-    tree.add_node(file, node(alloc, false))?;
-    tree.add_node(Fid::ROOT, node(alloc, true))?;
-    tree.add_entry(Fid::ROOT, &name, file)?;
+    let name = Name::new(rt.alloc(), b"a")?;
+    let mut tree = root_with(rt.alloc(), &name, file)?;
     tree.add_attribute(file, &name, &[0x0a, 0xff])?;
+    let mut out = Bytes::new(rt.alloc());
+    tree.print(&mut out)?;
     let want =
         "tree 2 1\nnode [0x200000007:0x1:0x0] dir 0750 7 8 2\nnode [0x200000400:0x1:0x0] file 0750 7 8 2\nentry [0x200000007:0x1:0x0] a [0x200000400:0x1:0x0]\nxattr [0x200000400:0x1:0x0] a 0aff\n";
-    let mut out = Bytes::new(alloc);
-    tree.print(&mut out)?;
     assert_eq!(rt; out.bytes(), want.as_bytes());
     Ok(())
 }

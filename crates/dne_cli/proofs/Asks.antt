@@ -19,7 +19,13 @@ may_as : (cluster : Option ℕ) (ended : Bool) (u v : ℕ → Bool) (e : Entry) 
 may_as cluster ended u v (Skip line) same fits may = may
 may_as cluster ended u v (Order (commands.Cluster n)) same fits may = may
 may_as cluster ended u v (Order (commands.Send r)) same fits may = (may.0, sym (same r.number (limits cluster r fits).2) ∙ may.1)
+may_as cluster ended u v (Order (commands.Again n)) same fits may = (may.0, sym (same n fits.1) ∙ may.1)
+may_as cluster ended u v (Order (commands.Deliver k)) same fits may = may
+may_as cluster ended u v (Order (commands.Drop k)) same fits may = may
 may_as cluster ended u v (Order commands.Settle) same fits may = may
+may_as cluster ended u v (Order commands.Resend) same fits may = may
+may_as cluster ended u v (Order commands.List) same fits may = may
+may_as cluster ended u v (Order (commands.Log t)) same fits may = may
 may_as cluster ended u v (Order commands.Tree) same fits may = may
 may_as cluster ended u v (Order commands.End) same fits may = may
 may_as cluster ended u v (Order (commands.Commit t)) same fits may = may

@@ -306,6 +306,7 @@ order_turn calls (Order (commands.Restart t)) s said n k new ls a taken few d =
     subst (λ x. IsTurn calls s said n k (Order (commands.Restart t)) x ls) (sym d.2) (restart_turn calls (standing_of k.target) k.target.formatted t s said n k d.0 ls refl refl a taken few d.1)
 order_turn calls (Order (commands.Fuse t after choice)) s said n k new ls a taken few d =
     subst (λ x. IsTurn calls s said n k (Order (commands.Fuse t after choice)) x ls) (sym d.1) (subst (λ x. IsTurn calls s said n k (Order (commands.Fuse t after choice)) k x) (sym d.2) (fuse_turn calls t after choice s said n k a taken d.0))
+order_turn calls (Order _) s said n k new ls a taken few d = absurd d
 
 -- what a session does for a line is a turn of the machine
 pub take_turn : (calls : Calls) (e : Entry) (s : State) (said : List Line) (n : ℕ) (k new : Kept) (ls : List Line) → Agrees s said n k → Stands k e → NoFeed (line_of e) → n < 2 ^ 32 → Does calls k e new ls → IsTurn calls s said n k e new ls

@@ -53,16 +53,8 @@ HoldsBadImage place content = (s : Saved) × (opened content ≡ Some s) × (num
 -- EACH LINE
 
 abbrev pub is_crash : Entry → Bool
-is_crash (Skip line) = false
-is_crash (Order (commands.Cluster targets)) = false
-is_crash (Order (commands.Send r)) = false
-is_crash (Order commands.Settle) = false
-is_crash (Order commands.Tree) = false
-is_crash (Order commands.End) = false
-is_crash (Order (commands.Commit target)) = false
 is_crash (Order (commands.Crash target)) = true
-is_crash (Order (commands.Restart target)) = false
-is_crash (Order (commands.Fuse target after choice)) = false
+is_crash _ = false
 
 -- a target stopped, and no `crash` asked for it
 abbrev pub IsFailure : Group → Type 0
@@ -87,16 +79,9 @@ says_nothing (l ∷ ls) = false
 
 -- the disk was formatted: the cluster was made with it, or a restart brought its target up
 abbrev pub makes : Entry → List Line → Bool
-makes (Skip line) ls = false
 makes (Order (commands.Cluster targets)) ls = says_nothing ls
-makes (Order (commands.Send r)) ls = false
-makes (Order commands.Settle) ls = false
-makes (Order commands.Tree) ls = false
-makes (Order commands.End) ls = false
-makes (Order (commands.Commit target)) ls = false
-makes (Order (commands.Crash target)) ls = false
 makes (Order (commands.Restart target)) ls = says_up ls
-makes (Order (commands.Fuse target after choice)) ls = false
+makes _ ls = false
 
 abbrev pub made_by : Bool → Group → Bool
 made_by made g = made || makes g.entry g.lines
@@ -170,6 +155,8 @@ module _ (calls : Calls) where
   DoesToDisk made (Order (commands.Crash target)) ls old new = new ≡ old
   DoesToDisk made (Order (commands.Restart target)) ls old new = AllByRecursion (λ l. RestartsDisk made l old new) ls
   DoesToDisk made (Order (commands.Fuse target after choice)) ls old new = calls.armed after choice old × (new ≡ old)
+  -- The others aren't played.
+  DoesToDisk made (Order _) ls old new = ⊥
 
   -- It is the same disk after each group, its count doesn't fall, and rises where a target stopped that no
   -- `crash` asked for.

@@ -251,6 +251,8 @@ module _ (calls : Calls) where
   Obeys k (commands.Crash t) new ls = (target : Held) × Crashes (standing_of k.target) t k.target target ls × (new ≡ record k { target = target })
   Obeys k (commands.Restart t) new ls = (target : Held) × Restarts (standing_of k.target) k.target.formatted t k.target target ls × (new ≡ record k { target = target })
   Obeys k (commands.Fuse t after choice) new ls = calls.armed after choice k.target.disk × (new ≡ k) × (ls ≡ [])
+  -- The others aren't played.
+  Obeys k _ new ls = ⊥
 
   abbrev pub Does : Kept → Entry → Kept → List Line → Type 0
   Does k (Skip line) new ls = (new ≡ k) × (ls ≡ [])

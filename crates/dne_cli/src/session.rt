@@ -1,5 +1,5 @@
 ghost use Rattle.std.specs.Prelude.{◌≡◌, ◌≢◌, ◌++◌, [], ◌↔◌, ◌≤◌, List, true, false, IsTrue, IfOk, OnOk, IfErr, IsErr, Err};
-ghost use Rattle.scenario_text.specs.Spelling.{Entry, IsCommand, line_of};
+ghost use Rattle.scenario_text.specs.Spelling.{Entry, IsCommand, IsPlayed, line_of};
 ghost use Rattle.scenario_text.specs.Machine.{MayCome};
 ghost use Rattle.scenario_text.specs.LineText.{texts};
 ghost use Rattle.scenario_text.specs.declared.command.Command.{Command};
@@ -102,7 +102,13 @@ impl<D: Plant> Session<D> {
         match command {
             Command::Cluster(_) => self.cluster.is_none(),
             Command::Send(request) => open && !self.is_used(request.number),
+            Command::Again(number) => open && self.is_used(*number),
+            Command::Deliver(_) => open,
+            Command::Drop(_) => open,
             Command::Settle => open,
+            Command::Resend => open,
+            Command::List => open,
+            Command::Log(_) => open,
             Command::Tree => open,
             Command::End => open,
             Command::Commit(_) => open,
@@ -239,6 +245,7 @@ impl<D: Plant> Session<D> {
     /// Does what the command asks for, and adds the lines that come of it.
     fn obey(&mut self, command: Command, out: &mut Bytes) -> Result<(), Memory>
         requires taken { IsCommand self.old.cluster command }
+        requires played { IsPlayed command }
         requires comes { MayCome self.old.cluster self.old.ended (is_used self.old.used) command }
         ensures does { OnOk result ((ls : List Line) × Obeys (calls_of D.cycled D.armed) self.old command self.new ls × (out.new ≡ out.old ++ texts ls)) }
         ensures touches { Touches self.old.target.disk self.new.target.disk }
@@ -256,6 +263,12 @@ impl<D: Plant> Session<D> {
                 self.fuse(after, choice);
                 Ok(())
             }
+            Command::Again(_) => unreachable!(),
+            Command::Deliver(_) => unreachable!(),
+            Command::Drop(_) => unreachable!(),
+            Command::Resend => unreachable!(),
+            Command::List => unreachable!(),
+            Command::Log(_) => unreachable!(),
         }
     }
 

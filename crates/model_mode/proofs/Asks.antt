@@ -41,12 +41,18 @@ said-push t (d ∷ es) e = ap (λ l. said_after t d ++ l) (said-push (tree_after
 
 -- WHAT MAY STAND
 
--- the numbers that were used matter for a request alone
+-- the numbers that were used matter for a request alone, and for one that is sent again
 may_as : (cluster : Option ℕ) (ended : Bool) (u v : ℕ → Bool) (e : Entry) → ((n : ℕ) → n ≤ 65536 → u n ≡ v n) → IsSpelled cluster e → MayStand cluster ended u e → MayStand cluster ended v e
 may_as cluster ended u v (Skip line) same fits may = may
 may_as cluster ended u v (Order (commands.Cluster n)) same fits may = may
 may_as cluster ended u v (Order (commands.Send r)) same fits may = (may.0, sym (same r.number (limits cluster r fits).2) ∙ may.1)
+may_as cluster ended u v (Order (commands.Again n)) same fits may = (may.0, sym (same n fits.1) ∙ may.1)
+may_as cluster ended u v (Order (commands.Deliver k)) same fits may = may
+may_as cluster ended u v (Order (commands.Drop k)) same fits may = may
 may_as cluster ended u v (Order commands.Settle) same fits may = may
+may_as cluster ended u v (Order commands.Resend) same fits may = may
+may_as cluster ended u v (Order commands.List) same fits may = may
+may_as cluster ended u v (Order (commands.Log t)) same fits may = may
 may_as cluster ended u v (Order commands.Tree) same fits may = may
 may_as cluster ended u v (Order commands.End) same fits may = may
 may_as cluster ended u v (Order (commands.Commit t)) same fits may = may
@@ -104,6 +110,12 @@ asks_more a t k (Order (commands.Send r)) s next =
       used = flags_more k.used a.sent r s.flags low s.used;
       flags = length-set k.used r.number true ∙ s.flags;
     }
+asks_more a t k (Order (commands.Again n)) s next = record { tree = s.tree; cluster = s.cluster; ended = s.ended; used = s.used; flags = s.flags }
+asks_more a t k (Order (commands.Deliver m)) s next = record { tree = s.tree; cluster = s.cluster; ended = s.ended; used = s.used; flags = s.flags }
+asks_more a t k (Order (commands.Drop m)) s next = record { tree = s.tree; cluster = s.cluster; ended = s.ended; used = s.used; flags = s.flags }
+asks_more a t k (Order commands.Resend) s next = record { tree = s.tree; cluster = s.cluster; ended = s.ended; used = s.used; flags = s.flags }
+asks_more a t k (Order commands.List) s next = record { tree = s.tree; cluster = s.cluster; ended = s.ended; used = s.used; flags = s.flags }
+asks_more a t k (Order (commands.Log target)) s next = record { tree = s.tree; cluster = s.cluster; ended = s.ended; used = s.used; flags = s.flags }
 asks_more a t k (Order commands.Settle) s next = record { tree = s.tree; cluster = s.cluster; ended = s.ended; used = s.used; flags = s.flags }
 asks_more a t k (Order commands.Tree) s next = record { tree = s.tree; cluster = s.cluster; ended = s.ended; used = s.used; flags = s.flags }
 asks_more a t k (Order commands.End) s next = record { tree = s.tree; cluster = s.cluster; ended = refl; used = s.used; flags = s.flags }

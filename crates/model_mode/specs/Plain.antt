@@ -22,7 +22,13 @@ after_op op g = record { targets = g.targets; tree = (step g.targets g.tree op).
 abbrev pub tree_by : Option Grown → Command → Option Grown
 tree_by t (commands.Cluster targets) = Some (new_tree targets)
 tree_by t (commands.Send r) = option_map (after_op r.op) t
+tree_by t (commands.Again number) = t
+tree_by t (commands.Deliver message) = t
+tree_by t (commands.Drop message) = t
 tree_by t commands.Settle = t
+tree_by t commands.Resend = t
+tree_by t commands.List = t
+tree_by t (commands.Log target) = t
 tree_by t commands.Tree = t
 tree_by t commands.End = t
 tree_by t (commands.Commit target) = t
@@ -42,7 +48,13 @@ tree_said (Some g) = tree_text g.tree
 abbrev pub said_by : Option Grown → Command → List ℕ
 said_by t (commands.Cluster targets) = []
 said_by t (commands.Send r) = reply_said t r
+said_by t (commands.Again number) = []
+said_by t (commands.Deliver message) = []
+said_by t (commands.Drop message) = []
 said_by t commands.Settle = []
+said_by t commands.Resend = []
+said_by t commands.List = []
+said_by t (commands.Log target) = []
 said_by t commands.Tree = tree_said t
 said_by t commands.End = codes "end\n"
 said_by t (commands.Commit target) = []

@@ -1,6 +1,7 @@
 use fid_space::{Bytes, Cluster, Fid, Targets};
 use scenario_text::{
-    Command, Cut, Line, LineCutter, TextFault, is_skipped, print_no_end, print_refusal,
+    Command, Cut, Kind, Line, LineCutter, Lines, Logged, Sender, TextFault, is_skipped,
+    print_no_end, print_refusal,
 };
 use std::alloc::{AllocError as Memory, Global};
 use std::test::Fail;
@@ -10,7 +11,13 @@ fn kind(read: &Result<Command, TextFault>) -> &'static str {
     match read {
         Ok(Command::Cluster(_)) => "cluster",
         Ok(Command::Send(_)) => "send",
+        Ok(Command::Again(_)) => "again",
+        Ok(Command::Deliver(_)) => "deliver",
+        Ok(Command::Drop(_)) => "drop",
         Ok(Command::Settle) => "settle",
+        Ok(Command::Resend) => "resend",
+        Ok(Command::List) => "list",
+        Ok(Command::Log(_)) => "log",
         Ok(Command::Tree) => "tree",
         Ok(Command::End) => "end",
         Ok(Command::Commit(_)) => "commit",
@@ -24,7 +31,7 @@ fn kind(read: &Result<Command, TextFault>) -> &'static str {
 
 #[test]
 fn reads_commands(rt: HostRuntime) {
-    let rows: [(&str, &str); 15] = [
+    let rows: [(&str, &str); 25] = [
         ("settle", "settle"),
         ("tree", "tree"),
         ("end", "end"),
@@ -38,6 +45,16 @@ fn reads_commands(rt: HostRuntime) {
         ("send 0 0 getattr [0x200000007:0x1:0x0]", "NotYet"),
         ("send 1 64 getattr [0x200000007:0x1:0x0]", "NotYet"),
         ("send 1 0 mknod [0x200000007:0x1:0x0] a", "NotYet"),
+        ("again 65536", "again"),
+        ("again 0", "NotYet"),
+        ("deliver 4294967295", "deliver"),
+        ("deliver 4294967296", "NotYet"),
+        ("drop 0", "drop"),
+        ("resend", "resend"),
+        ("list", "list"),
+        ("log 15", "log"),
+        ("log 16", "NotYet"),
+        ("recover", "NotYet"),
         ("settle ", "NotYet"),
         ("", "NotYet"),
     ];
@@ -163,6 +180,58 @@ fn prints_lines(rt: HostRuntime) -> Result<(), Fail> {
     assert_eq!(rt;
         printed(alloc, image)?.bytes(),
         b"damaged 15 image 33546224\n".as_slice()
+    );
+    Ok(())
+}
+
+/// Lines of several targets, in a list.
+#[test]
+fn prints_lines_of_several_targets(rt: HostRuntime) -> Result<(), Fail> {
+    let alloc = rt.alloc();
+    let mut lines = Lines::new(alloc);
+    lines.push(Line::Done {
+        number: 1,
+        target: 15,
+    })?;
+    lines.push(Line::Full {
+        number: 489,
+        target: 0,
+        load: 4_070_272,
+        need: 1_179_648,
+    })?;
+    lines.push(Line::Shared {
+        target: 0,
+        number: 3,
+        writer: 2,
+    })?;
+    lines.push(Line::LogEntry(Logged {
+        index: 1,
+        epoch: 2,
+        master: 0,
+        batch: 3,
+        number: 4,
+        on: Targets::none().with(0).with(1),
+    }))?;
+    lines.push(Line::Message {
+        number: 6,
+        kind: Kind::Stable,
+        request: 0,
+        from: Sender::Target(1),
+        to: 0,
+    })?;
+    lines.push(Line::Message {
+        number: 7,
+        kind: Kind::Request,
+        request: 5,
+        from: Sender::Client(63),
+        to: 15,
+    })?;
+    let mut out = Bytes::new(alloc);
+    lines.print(&mut out)?;
+    assert!(rt; lines.len() == 6);
+    assert_eq!(rt;
+        out.bytes(),
+        b"done 1 at 15\nfull 489 target 0 load 4070272 need 1179648\nshared 0 3 2\nindex 1 id 2.0.3 number 4 on 0,1\nmsg 6 stable 0 1 0\nmsg 7 request 5 c63 15\n".as_slice()
     );
     Ok(())
 }

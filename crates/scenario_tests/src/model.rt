@@ -25,7 +25,7 @@ fn runs_scenarios(rt: HostRuntime) -> Result<(), Fail> {
             "reply 1 OK\ntree 2 1\nnode [0x200000007:0x1:0x0] dir 0755 0 0 2\nnode [0x200000400:0x1:0x0] file 0644 0 0 1\nentry [0x200000007:0x1:0x0] a [0x200000400:0x1:0x0]\nend\n",
         ),
         (
-            "# made\n\ncluster 16\ncommit 15\ncrash 0\nrestart 0\nfuse 3 7 255\nend",
+            "# made\n\ncluster 16\ncommit 15\ncrash 0\nrestart 0\nfuse 3 7 255\ndeliver 9\ndrop 0\nresend\nlist\nlog 15\nend",
             Status::Done,
             "end\n",
         ),
@@ -50,7 +50,7 @@ fn runs_scenarios(rt: HostRuntime) -> Result<(), Fail> {
 
 #[test]
 fn refuses_lines(rt: HostRuntime) -> Result<(), Fail> {
-    let rows: [(&str, &str); 12] = [
+    let rows: [(&str, &str); 13] = [
         ("", "line 1: NoEnd\n"),
         ("tree\n", "line 1: NotYet\n"),
         ("cluster 0\n", "line 1: NotYet\n"),
@@ -71,6 +71,7 @@ fn refuses_lines(rt: HostRuntime) -> Result<(), Fail> {
             "cluster 1\nsend 1 0 getattr [0x200000400:0x1:0x0]\nsend 1 0 getattr [0x200000400:0x1:0x0]\n",
             "reply 1 ENOENT\nline 3: NotYet\n",
         ),
+        ("cluster 2\nagain 1\n", "line 2: NotYet\n"),
         ("cluster 2\n\nfrob", "line 3: NotYet\n"),
     ];
     for (text, want) in rows {

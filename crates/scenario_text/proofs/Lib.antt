@@ -5,4 +5,5 @@ pub mod Runs
 pub mod MachineLaws
 pub mod Worked
 pub mod OneLine
+mod Written
 mod Restored

@@ -38,6 +38,7 @@ says_legal s (lines.Tree grown) others t h legal = subst Legal (sym h.1) legal
 says_legal s (lines.TreeState target) others t h legal = subst Legal (sym h.1) legal
 says_legal s (lines.EndUnclean target) others t h legal = subst Legal (sym h.1) legal
 says_legal s lines.EndClean others t h legal = subst Legal (sym h.1) legal
+says_legal s _ others t h legal = absurd h
 
 says_all_legal : (ls : List Line) (s t : State) → SaysAll s ls t → Legal s → Legal t
 says_all_legal [] s t h legal = subst Legal (sym h) legal
@@ -82,6 +83,7 @@ turn_sound_of s (Order (commands.Commit target)) ls t taken group says sound = o
 turn_sound_of s (Order (commands.Crash target)) ls t taken group says sound = open_sound s (begun s (Order (commands.Crash target))) ls t taken.1.0 refl refl says sound
 turn_sound_of s (Order (commands.Restart target)) ls t taken group says sound = open_sound s (begun s (Order (commands.Restart target))) ls t taken.1.0 refl refl says sound
 turn_sound_of s (Order (commands.Fuse target after choice)) ls t taken group says sound = open_sound s (begun s (Order (commands.Fuse target after choice))) ls t taken.1.0 refl refl says sound
+turn_sound_of s (Order _) ls t taken group says sound = absurd group
 
 run_sound : (gs : List Group) (s t : State) → Run s gs t → Sound s → Sound t
 run_sound [] s t h sound = subst Sound (sym h) sound
@@ -125,6 +127,7 @@ says_numbers s (lines.Tree grown) others t h = ap (λ (x : State). numbers x.his
 says_numbers s (lines.TreeState target) others t h = ap (λ (x : State). numbers x.history) h.1 ∙ sym (append-nil (numbers s.history))
 says_numbers s (lines.EndUnclean target) others t h = ap (λ (x : State). numbers x.history) h.1 ∙ sym (append-nil (numbers s.history))
 says_numbers s lines.EndClean others t h = ap (λ (x : State). numbers x.history) h.1 ∙ sym (append-nil (numbers s.history))
+says_numbers s _ others t h = absurd h
 
 says_all_numbers : (ls : List Line) (s t : State) → SaysAll s ls t → numbers t.history ≡ numbers s.history ++ accepted ls
 says_all_numbers [] s t h = ap (λ (x : State). numbers x.history) h ∙ sym (append-nil (numbers s.history))

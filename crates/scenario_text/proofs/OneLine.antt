@@ -48,7 +48,13 @@ words_lack a (commands.Cluster n) h = (lacks_by_test 10 (codes "cluster") refl, 
 words_lack a (commands.Send r) h =
     let l = limits a r h in
     (lacks_by_test 10 (codes "send") refl, (digits_lack r.number (omega (arith, l.2)), (digits_lack r.client (omega (arith, l.3)), op_lacks l.0 r.op l.4)))
+words_lack a (commands.Again n) h = (lacks_by_test 10 (codes "again") refl, (digits_lack n (omega (arith, h.1)), tt))
+words_lack a (commands.Deliver k) h = (lacks_by_test 10 (codes "deliver") refl, (digits_lack k (omega (arith, h)), tt))
+words_lack a (commands.Drop k) h = (lacks_by_test 10 (codes "drop") refl, (digits_lack k (omega (arith, h)), tt))
 words_lack a commands.Settle h = (lacks_by_test 10 (codes "settle") refl, tt)
+words_lack a commands.Resend h = (lacks_by_test 10 (codes "resend") refl, tt)
+words_lack a commands.List h = (lacks_by_test 10 (codes "list") refl, tt)
+words_lack a (commands.Log t) h = (lacks_by_test 10 (codes "log") refl, (digits_lack t (low_target a t h), tt))
 words_lack a commands.Tree h = (lacks_by_test 10 (codes "tree") refl, tt)
 words_lack a commands.End h = (lacks_by_test 10 (codes "end") refl, tt)
 words_lack a (commands.Commit t) h = (lacks_by_test 10 (codes "commit") refl, (digits_lack t (low_target a t h), tt))
@@ -68,7 +74,13 @@ one_line a c h = joined_lacks 10 32 (λ e. absurd (omega (arith, e))) (words_of 
 no_words : (c : Command) → [] ∷ [] ≡ words_of c → ⊥
 no_words (commands.Cluster n) e = cc
 no_words (commands.Send r) e = cc
+no_words (commands.Again n) e = cc
+no_words (commands.Deliver k) e = cc
+no_words (commands.Drop k) e = cc
 no_words commands.Settle e = cc
+no_words commands.Resend e = cc
+no_words commands.List e = cc
+no_words (commands.Log t) e = cc
 no_words commands.Tree e = cc
 no_words commands.End e = cc
 no_words (commands.Commit t) e = cc
@@ -87,7 +99,13 @@ first_of (b ∷ rest) = b
 no_comment : (c : Command) (rest : List ℕ) → spelling c ≡ 0x23 ∷ rest → ⊥
 no_comment (commands.Cluster n) rest e = let b = ap first_of e in absurd (omega (arith, b))
 no_comment (commands.Send r) rest e = let b = ap first_of e in absurd (omega (arith, b))
+no_comment (commands.Again n) rest e = let b = ap first_of e in absurd (omega (arith, b))
+no_comment (commands.Deliver k) rest e = let b = ap first_of e in absurd (omega (arith, b))
+no_comment (commands.Drop k) rest e = let b = ap first_of e in absurd (omega (arith, b))
 no_comment commands.Settle rest e = let b = ap first_of e in absurd (omega (arith, b))
+no_comment commands.Resend rest e = let b = ap first_of e in absurd (omega (arith, b))
+no_comment commands.List rest e = let b = ap first_of e in absurd (omega (arith, b))
+no_comment (commands.Log t) rest e = let b = ap first_of e in absurd (omega (arith, b))
 no_comment commands.Tree rest e = let b = ap first_of e in absurd (omega (arith, b))
 no_comment commands.End rest e = let b = ap first_of e in absurd (omega (arith, b))
 no_comment (commands.Commit t) rest e = let b = ap first_of e in absurd (omega (arith, b))

@@ -30,7 +30,13 @@ words_lack a (commands.Cluster n) h = (lacks_by_test 32 (codes "cluster") refl, 
 words_lack a (commands.Send r) h =
     let l = limits a r h in
     (lacks_by_test 32 (codes "send") refl, (digits_lack r.number (omega (arith, l.2)), (digits_lack r.client (omega (arith, l.3)), op_lacks l.0 r.op l.4)))
+words_lack a (commands.Again n) h = (lacks_by_test 32 (codes "again") refl, (digits_lack n (omega (arith, h.1)), tt))
+words_lack a (commands.Deliver k) h = (lacks_by_test 32 (codes "deliver") refl, (digits_lack k (omega (arith, h)), tt))
+words_lack a (commands.Drop k) h = (lacks_by_test 32 (codes "drop") refl, (digits_lack k (omega (arith, h)), tt))
 words_lack a commands.Settle h = (lacks_by_test 32 (codes "settle") refl, tt)
+words_lack a commands.Resend h = (lacks_by_test 32 (codes "resend") refl, tt)
+words_lack a commands.List h = (lacks_by_test 32 (codes "list") refl, tt)
+words_lack a (commands.Log t) h = (lacks_by_test 32 (codes "log") refl, (digits_lack t (low_target a t h), tt))
 words_lack a commands.Tree h = (lacks_by_test 32 (codes "tree") refl, tt)
 words_lack a commands.End h = (lacks_by_test 32 (codes "end") refl, tt)
 words_lack a (commands.Commit t) h = (lacks_by_test 32 (codes "commit") refl, (digits_lack t (low_target a t h), tt))
@@ -43,7 +49,13 @@ words_lack a (commands.Fuse t after choice) h =
 pub cut_words : (a : Option ℕ) (c : Command) → IsCommand a c → slice_split (λ x. x == 32) (spelling c) ≡ words_of c
 cut_words a (commands.Cluster n) h = split_join 32 (codes "cluster") (decimal n ∷ []) (words_lack a (commands.Cluster n) h)
 cut_words a (commands.Send r) h = split_join 32 (codes "send") (decimal r.number ∷ decimal r.client ∷ op_words r.op) (words_lack a (commands.Send r) h)
+cut_words a (commands.Again n) h = split_join 32 (codes "again") (decimal n ∷ []) (words_lack a (commands.Again n) h)
+cut_words a (commands.Deliver k) h = split_join 32 (codes "deliver") (decimal k ∷ []) (words_lack a (commands.Deliver k) h)
+cut_words a (commands.Drop k) h = split_join 32 (codes "drop") (decimal k ∷ []) (words_lack a (commands.Drop k) h)
 cut_words a commands.Settle h = split_join 32 (codes "settle") [] (words_lack a commands.Settle h)
+cut_words a commands.Resend h = split_join 32 (codes "resend") [] (words_lack a commands.Resend h)
+cut_words a commands.List h = split_join 32 (codes "list") [] (words_lack a commands.List h)
+cut_words a (commands.Log t) h = split_join 32 (codes "log") (decimal t ∷ []) (words_lack a (commands.Log t) h)
 cut_words a commands.Tree h = split_join 32 (codes "tree") [] (words_lack a commands.Tree h)
 cut_words a commands.End h = split_join 32 (codes "end") [] (words_lack a commands.End h)
 cut_words a (commands.Commit t) h = split_join 32 (codes "commit") (decimal t ∷ []) (words_lack a (commands.Commit t) h)
@@ -75,7 +87,19 @@ words_injective a b (commands.Send r) (commands.Send s) h k e =
 words_injective a b (commands.Cluster m) (commands.Cluster n) h k e = (
     let word : decimal m ≡ decimal n = cc in
     ap commands.Cluster (decimal_injective m n (omega (arith, h.1)) (omega (arith, k.1)) word))
+words_injective a b (commands.Again m) (commands.Again n) h k e = (
+    let word : decimal m ≡ decimal n = cc in
+    ap commands.Again (decimal_injective m n (omega (arith, h.1)) (omega (arith, k.1)) word))
+words_injective a b (commands.Deliver m) (commands.Deliver n) h k e = (
+    let word : decimal m ≡ decimal n = cc in
+    ap commands.Deliver (decimal_injective m n (omega (arith, h)) (omega (arith, k)) word))
+words_injective a b (commands.Drop m) (commands.Drop n) h k e = (
+    let word : decimal m ≡ decimal n = cc in
+    ap commands.Drop (decimal_injective m n (omega (arith, h)) (omega (arith, k)) word))
 words_injective a b commands.Settle commands.Settle h k e = refl
+words_injective a b commands.Resend commands.Resend h k e = refl
+words_injective a b commands.List commands.List h k e = refl
+words_injective a b (commands.Log s) (commands.Log t) h k e = let word : decimal s ≡ decimal t = cc in ap commands.Log (same_target a b s t h k word)
 words_injective a b commands.Tree commands.Tree h k e = refl
 words_injective a b commands.End commands.End h k e = refl
 words_injective a b (commands.Commit s) (commands.Commit t) h k e = let word : decimal s ≡ decimal t = cc in ap commands.Commit (same_target a b s t h k word)

@@ -21,6 +21,7 @@ says_asked s (lines.Tree grown) others t h = ap (λ (x : State). x.asked) h.1
 says_asked s (lines.TreeState target) others t h = ap (λ (x : State). x.asked) h.1
 says_asked s lines.EndClean others t h = ap (λ (x : State). x.asked) h.1
 says_asked s (lines.EndUnclean target) others t h = ap (λ (x : State). x.asked) h.1
+says_asked s _ others t h = absurd h
 
 pub says_all_asked : (ls : List Line) (s t : State) → SaysAll s ls t → t.asked ≡ s.asked
 says_all_asked [] s t h = ap (λ (x : State). x.asked) h

@@ -8,6 +8,11 @@ use Rattle.tree_model.specs.ReplyText.{reply_text}
 use Rattle.tree_model.specs.declared.reply.Reply.{Reply}
 use Rattle.scenario_text.specs.declared.line.Standing.{Standing}
 use Rattle.scenario_text.specs.declared.line.Standing.TheVariants.{Serving, Opened, Down}
+use Rattle.scenario_text.specs.declared.message.Kind.{Kind}
+use Rattle.scenario_text.specs.declared.message.Kind.TheVariants as kinds
+use Rattle.scenario_text.specs.declared.message.Sender.{Sender}
+use Rattle.scenario_text.specs.declared.message.Sender.TheVariants as senders
+use Rattle.scenario_text.specs.declared.logged.Logged.{Logged}
 use Rattle.scenario_text.specs.declared.line.Line.{Line}
 use Rattle.scenario_text.specs.declared.line.Line.TheVariants as lines
 
@@ -49,6 +54,46 @@ abbrev pub up_text : ℕ → ℕ → List ℕ → List ℕ
 up_text target transno numbers =
     codes "up " ++ (decimal target ++ (codes " transno " ++ (decimal transno ++ (codes " holds " ++ (list_text numbers ++ codes "\n")))))
 
+abbrev pub full_text : ℕ → ℕ → ℕ → ℕ → List ℕ
+full_text number target load need =
+    codes "full " ++ (decimal number ++ (codes " target " ++ (decimal target ++ (codes " load " ++ (decimal load ++ (codes " need " ++ (decimal need ++ codes "\n")))))))
+
+abbrev pub shared_text : ℕ → ℕ → ℕ → List ℕ
+shared_text target number writer = codes "shared " ++ (decimal target ++ (codes " " ++ (decimal number ++ (codes " " ++ (decimal writer ++ codes "\n")))))
+
+-- a live record of an update log: its index; the epoch, master and batch of its operation; the number of the request
+abbrev pub logged_head : Logged → List ℕ
+logged_head r =
+    codes "index " ++ (decimal r.index ++ (codes " id " ++ (decimal r.epoch ++ (codes "." ++ (decimal r.master ++ (codes "." ++ (decimal r.batch ++ (codes " number " ++ (decimal r.number ++ codes " on ")))))))))
+
+-- and the targets that it is on
+abbrev pub logged_text : Logged → List ℕ
+logged_text r = logged_head r ++ (targets_text r.on ++ codes "\n")
+
+abbrev pub kind_word : Kind → List ℕ
+kind_word kinds.Request = codes "request"
+kind_word kinds.Hold = codes "hold"
+kind_word kinds.Held = codes "held"
+kind_word kinds.HoldBusy = codes "holdbusy"
+kind_word kinds.Sync = codes "sync"
+kind_word kinds.Synced = codes "synced"
+kind_word kinds.Execute = codes "execute"
+kind_word kinds.Executed = codes "executed"
+kind_word kinds.Release = codes "release"
+kind_word kinds.Released = codes "released"
+kind_word kinds.Stable = codes "stable"
+kind_word kinds.Cancel = codes "cancel"
+
+abbrev pub sender_word : Sender → List ℕ
+sender_word (senders.Target target) = decimal target
+sender_word (senders.Client client) = codes "c" ++ decimal client
+
+-- a message: its number and kind, its request, its sender, and the target that it is for
+abbrev pub message_text : ℕ → Kind → ℕ → Sender → ℕ → List ℕ
+message_text number kind request from to =
+    codes "msg " ++ (decimal number ++ (codes " " ++ (kind_word kind ++ (codes " " ++ (decimal request
+    ++ (codes " " ++ (sender_word from ++ (codes " " ++ (decimal to ++ codes "\n")))))))))
+
 abbrev pub standing_word : Standing → List ℕ
 standing_word Serving = codes "serving"
 standing_word Opened = codes "opened"
@@ -60,6 +105,12 @@ state_text target standing = codes "state " ++ (decimal target ++ (codes " " ++ 
 abbrev pub line_text : Line → List ℕ
 line_text (lines.Accept number reply on) = accept_text number reply on
 line_text (lines.Reply number reply) = reply_line_text number reply
+line_text (lines.Done number target) = two_text (codes "done ") number (codes " at ") target
+line_text (lines.Busy number holder) = two_text (codes "busy ") number (codes " holder ") holder
+line_text (lines.Full number target load need) = full_text number target load need
+line_text (lines.Shared target number writer) = shared_text target number writer
+line_text (lines.Ignored message) = one_text (codes "ignored ") message
+line_text lines.Unsettled = codes "unsettled\n"
 line_text (lines.Stale number last) = two_text (codes "stale ") number (codes " last ") last
 line_text (lines.Recovering number target) = two_text (codes "recovering ") number (codes " target ") target
 line_text (lines.Stable target numbers) = stable_text target numbers
@@ -70,8 +121,13 @@ line_text (lines.DamagedImage target place) = two_text (codes "damaged ") target
 line_text (lines.State target standing) = state_text target standing
 line_text (lines.Tree t) = tree_text t.tree
 line_text (lines.TreeState target) = one_text (codes "tree state ") target
+line_text (lines.TreeBusy number) = one_text (codes "tree busy ") number
+line_text (lines.Log target live) = two_text (codes "log ") target (codes " live ") live
+line_text (lines.LogEntry entry) = logged_text entry
+line_text (lines.Message number kind request from to) = message_text number kind request from to
 line_text lines.EndClean = codes "end clean\n"
 line_text (lines.EndUnclean target) = one_text (codes "end unclean target ") target
+line_text (lines.EndUncleanRequest number) = one_text (codes "end unclean request ") number
 
 -- the text of several lines
 abbrev pub texts : List Line → List ℕ

@@ -34,7 +34,13 @@ nothing_asked = record { cluster = None; ended = false; sent = [] }
 abbrev pub asked_by : Asked → Command → Asked
 asked_by a (commands.Cluster targets) = record a { cluster = Some targets }
 asked_by a (commands.Send r) = record a { sent = a.sent ++ r ∷ [] }
+asked_by a (commands.Again number) = a
+asked_by a (commands.Deliver message) = a
+asked_by a (commands.Drop message) = a
 asked_by a commands.Settle = a
+asked_by a commands.Resend = a
+asked_by a commands.List = a
+asked_by a (commands.Log target) = a
 asked_by a commands.Tree = a
 asked_by a commands.End = record a { ended = true }
 asked_by a (commands.Commit target) = a
@@ -56,11 +62,17 @@ abbrev pub IsOpen : Option ℕ → Bool → Type 0
 IsOpen cluster ended = IsSome cluster × (ended ≡ false)
 
 -- when a command may come: `cluster` once, the others between it and `end`, a request with a number that
--- wasn't used
+-- wasn't used, and once more with one that was
 abbrev pub MayCome : Option ℕ → Bool → (ℕ → Bool) → Command → Type 0
 MayCome cluster ended used (commands.Cluster targets) = cluster ≡ None
 MayCome cluster ended used (commands.Send r) = IsOpen cluster ended × (used r.number ≡ false)
+MayCome cluster ended used (commands.Again number) = IsOpen cluster ended × (used number ≡ true)
+MayCome cluster ended used (commands.Deliver message) = IsOpen cluster ended
+MayCome cluster ended used (commands.Drop message) = IsOpen cluster ended
 MayCome cluster ended used commands.Settle = IsOpen cluster ended
+MayCome cluster ended used commands.Resend = IsOpen cluster ended
+MayCome cluster ended used commands.List = IsOpen cluster ended
+MayCome cluster ended used (commands.Log target) = IsOpen cluster ended
 MayCome cluster ended used commands.Tree = IsOpen cluster ended
 MayCome cluster ended used commands.End = IsOpen cluster ended
 MayCome cluster ended used (commands.Commit target) = IsOpen cluster ended
@@ -134,7 +146,13 @@ is_formatted s = s.formatted || serves s.standing
 abbrev pub standing_by : Standing → Command → Standing
 standing_by s (commands.Cluster targets) = Serving
 standing_by s (commands.Send r) = s
+standing_by s (commands.Again number) = s
+standing_by s (commands.Deliver message) = s
+standing_by s (commands.Drop message) = s
 standing_by s commands.Settle = s
+standing_by s commands.Resend = s
+standing_by s commands.List = s
+standing_by s (commands.Log target) = s
 standing_by s commands.Tree = s
 standing_by s commands.End = s
 standing_by s (commands.Commit target) = s
@@ -249,6 +267,8 @@ Says old (lines.Tree grown) others new =
 Says old (lines.TreeState target) others new = (serves old.standing ≡ false) × (new ≡ old)
 Says old lines.EndClean others new = (old.standing ≡ Serving) × (new ≡ record old { clean = true })
 Says old (lines.EndUnclean target) others new = (serves old.standing ≡ false) × (new ≡ old)
+-- The others tell of messages and of several targets.
+Says old _ others new = ⊥
 
 abbrev pub SaysAll : State → List Line → State → Type 0
 SaysAll old [] new = new ≡ old
@@ -267,16 +287,7 @@ IsAnswer (lines.Accept number reply on) = Unit {0}
 IsAnswer (lines.Reply number reply) = Unit {0}
 IsAnswer (lines.Stale number last) = Unit {0}
 IsAnswer (lines.Recovering number target) = Unit {0}
-IsAnswer (lines.Stable target numbers) = ⊥
-IsAnswer (lines.Down target) = ⊥
-IsAnswer (lines.Up target transno numbers) = ⊥
-IsAnswer (lines.DamagedGates target gates) = ⊥
-IsAnswer (lines.DamagedImage target place) = ⊥
-IsAnswer (lines.State target standing) = ⊥
-IsAnswer (lines.Tree grown) = ⊥
-IsAnswer (lines.TreeState target) = ⊥
-IsAnswer lines.EndClean = ⊥
-IsAnswer (lines.EndUnclean target) = ⊥
+IsAnswer _ = ⊥
 
 -- a commit of a target by its standing: it is stable, or it stops; where it doesn't serve it says so
 abbrev pub CommitLines : Standing → ℕ → List Line → Type 0
@@ -323,6 +334,8 @@ IsGroup s (Order (commands.Commit target)) ls = CommitLines s target ls
 IsGroup s (Order (commands.Crash target)) ls = CrashLines s target ls
 IsGroup s (Order (commands.Restart target)) ls = RestartLines s target ls
 IsGroup s (Order (commands.Fuse target after choice)) ls = ls ≡ []
+-- The others aren't played so far.
+IsGroup s (Order _) ls = ⊥
 
 -- A turn: what may stand on a line, and its group of lines, each of which the machine may say.
 abbrev pub Turn : State → Group → State → Type 0
@@ -350,20 +363,10 @@ transcript gs = texts (lines_of gs)
 
 -- a line that answers the request with this number
 abbrev pub AnswersRequest : ℕ → Line → Type 0
-AnswersRequest number (lines.Accept n reply on) = ⊥
 AnswersRequest number (lines.Reply n reply) = n ≡ number
 AnswersRequest number (lines.Stale n last) = n ≡ number
 AnswersRequest number (lines.Recovering n target) = n ≡ number
-AnswersRequest number (lines.Stable target numbers) = ⊥
-AnswersRequest number (lines.Down target) = ⊥
-AnswersRequest number (lines.Up target transno numbers) = ⊥
-AnswersRequest number (lines.DamagedGates target gates) = ⊥
-AnswersRequest number (lines.DamagedImage target place) = ⊥
-AnswersRequest number (lines.State target standing) = ⊥
-AnswersRequest number (lines.Tree grown) = ⊥
-AnswersRequest number (lines.TreeState target) = ⊥
-AnswersRequest number lines.EndClean = ⊥
-AnswersRequest number (lines.EndUnclean target) = ⊥
+AnswersRequest number _ = ⊥
 
 abbrev pub HasAnswer : ℕ → List Line → Type 0
 HasAnswer number [] = ⊥
@@ -374,15 +377,8 @@ HaveAnswers rs ls = AllByRecursion (λ r. HasAnswer r.number ls) rs
 
 abbrev pub is_settle : Entry → Bool
 is_settle (Skip line) = false
-is_settle (Order (commands.Cluster targets)) = false
-is_settle (Order (commands.Send r)) = false
 is_settle (Order commands.Settle) = true
-is_settle (Order commands.Tree) = false
-is_settle (Order commands.End) = false
-is_settle (Order (commands.Commit target)) = false
-is_settle (Order (commands.Crash target)) = false
-is_settle (Order (commands.Restart target)) = false
-is_settle (Order (commands.Fuse target after choice)) = false
+is_settle (Order _) = false
 
 -- after a settle each of these requests has its answer among these lines
 abbrev pub IsServed : Entry → List Request → List Line → Type 0

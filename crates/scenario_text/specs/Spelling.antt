@@ -12,7 +12,13 @@ use Rattle.scenario_text.specs.declared.command.Command.TheVariants as commands
 abbrev pub words_of : Command → List (List ℕ)
 words_of (commands.Cluster targets) = codes "cluster" ∷ decimal targets ∷ []
 words_of (commands.Send r) = codes "send" ∷ decimal r.number ∷ decimal r.client ∷ op_words r.op
+words_of (commands.Again number) = codes "again" ∷ decimal number ∷ []
+words_of (commands.Deliver message) = codes "deliver" ∷ decimal message ∷ []
+words_of (commands.Drop message) = codes "drop" ∷ decimal message ∷ []
 words_of commands.Settle = codes "settle" ∷ []
+words_of commands.Resend = codes "resend" ∷ []
+words_of commands.List = codes "list" ∷ []
+words_of (commands.Log target) = codes "log" ∷ decimal target ∷ []
 words_of commands.Tree = codes "tree" ∷ []
 words_of commands.End = codes "end" ∷ []
 words_of (commands.Commit target) = codes "commit" ∷ decimal target ∷ []
@@ -37,7 +43,13 @@ IsTarget (Some targets) target = (target < targets) × (target < 16)
 abbrev pub IsCommand : Option ℕ → Command → Type 0
 IsCommand cluster (commands.Cluster targets) = (1 ≤ targets) × (targets ≤ 16)
 IsCommand cluster (commands.Send r) = IsRequest cluster r
+IsCommand cluster (commands.Again number) = (1 ≤ number) × (number ≤ 65536)
+IsCommand cluster (commands.Deliver message) = message ≤ 4294967295
+IsCommand cluster (commands.Drop message) = message ≤ 4294967295
 IsCommand cluster commands.Settle = Unit {0}
+IsCommand cluster commands.Resend = Unit {0}
+IsCommand cluster commands.List = Unit {0}
+IsCommand cluster (commands.Log target) = IsTarget cluster target
 IsCommand cluster commands.Tree = Unit {0}
 IsCommand cluster commands.End = Unit {0}
 IsCommand cluster (commands.Commit target) = IsTarget cluster target
@@ -72,11 +84,18 @@ abbrev pub is_create : Op → Bool
 is_create (ops.Create parent name fid) = true
 is_create _ = false
 
--- what is played so far, of the commands that have a spelling: one target, and creates
+-- what is played so far, of the commands that have a spelling: one target, creates, and nothing that speaks of
+-- messages or of a log
 abbrev pub IsPlayed : Command → Type 0
 IsPlayed (commands.Cluster targets) = targets ≡ 1
 IsPlayed (commands.Send r) = is_create r.op ≡ true
+IsPlayed (commands.Again number) = ⊥
+IsPlayed (commands.Deliver message) = ⊥
+IsPlayed (commands.Drop message) = ⊥
 IsPlayed commands.Settle = Unit {0}
+IsPlayed commands.Resend = ⊥
+IsPlayed commands.List = ⊥
+IsPlayed (commands.Log target) = ⊥
 IsPlayed commands.Tree = Unit {0}
 IsPlayed commands.End = Unit {0}
 IsPlayed (commands.Commit target) = Unit {0}

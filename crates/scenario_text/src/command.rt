@@ -15,8 +15,20 @@ pub enum Command {
     Cluster(Cluster),
     /// Sends a request.
     Send(Request),
+    /// Sends the request with this number once more.
+    Again(u32),
+    /// Delivers the message with this number, also one that was delivered or lost before.
+    Deliver(u32),
+    /// Loses the message with this number: `settle` passes it over.
+    Drop(u32),
     /// Delivers what was sent.
     Settle,
+    /// Sends once more what has no answer yet.
+    Resend,
+    /// Shows the messages that wait to be delivered.
+    List,
+    /// Shows the live records of a target's update log.
+    Log(u8),
     /// Shows the tree.
     Tree,
     /// Ends the scenario.
@@ -56,14 +68,20 @@ impl Command {
     }
 
     /// Whether it is one of the commands that are played so far: a cluster of one target, creates, and
-    /// all that isn't a request.
+    /// what speaks of no message and no log.
     pub fn is_played(&self) -> bool
         ensures { IsTrue result ↔ IsPlayed self.now }
     {
         match self {
             Command::Cluster(cluster) => cluster.targets() == 1,
             Command::Send(request) => is_create(&request.op),
+            Command::Again(_) => false,
+            Command::Deliver(_) => false,
+            Command::Drop(_) => false,
             Command::Settle => true,
+            Command::Resend => false,
+            Command::List => false,
+            Command::Log(_) => false,
             Command::Tree => true,
             Command::End => true,
             Command::Commit(_) => true,
@@ -112,6 +130,12 @@ fn of_one(word: &[u8], cluster: Option<Cluster>) -> Result<Command, TextFault>
     if word == b"end".as_slice() {
         return Ok(Command::End);
     }
+    if word == b"resend".as_slice() {
+        return Ok(Command::Resend);
+    }
+    if word == b"list".as_slice() {
+        return Ok(Command::List);
+    }
     Err(TextFault::NotYet)
 }
 
@@ -135,6 +159,18 @@ fn of_two(
     }
     if first == b"restart".as_slice() {
         return Ok(Command::Restart(target_in(alloc, second, cluster)?));
+    }
+    if first == b"log".as_slice() {
+        return Ok(Command::Log(target_in(alloc, second, cluster)?));
+    }
+    if first == b"again".as_slice() {
+        return Ok(Command::Again(number_in(alloc, second, 1, 65_536)?));
+    }
+    if first == b"deliver".as_slice() {
+        return Ok(Command::Deliver(message_in(alloc, second)?));
+    }
+    if first == b"drop".as_slice() {
+        return Ok(Command::Drop(message_in(alloc, second)?));
     }
     Err(TextFault::NotYet)
 }
@@ -257,6 +293,14 @@ fn number_in(alloc: Global, word: &[u8], least: u32, most: u32) -> Result<u32, T
         return Err(TextFault::NotYet);
     }
     Ok(n)
+}
+
+/// Reads the number of a message.
+fn message_in(alloc: Global, word: &[u8]) -> Result<u32, TextFault>
+    ensures ok { IfOk result (λ k. (k ≤ 4294967295) × (word.now ≡ decimal k)) }
+    ensures refused { result ≡ Err TextFault.NotYet → (k : ℕ) → k ≤ 4294967295 → word.now ≢ decimal k }
+{
+    number_in(alloc, word, 0, u32::MAX)
 }
 
 /// Reads the number of a target of the cluster.

@@ -1,8 +1,10 @@
 ghost use Rattle.std.specs.Prelude.{◌≡◌, ◌++◌, codes, OnOk, OnErr};
 ghost use Rattle.tree_model.specs.TreeText.{tree_text};
-ghost use Rattle.scenario_text.specs.LineText.{accept_text, reply_line_text, line_text, one_text, two_text, stable_text, up_text, standing_word, state_text};
+ghost use Rattle.scenario_text.specs.LineText.{accept_text, full_text, reply_line_text, line_text, one_text, shared_text, two_text, stable_text, up_text, standing_word, state_text};
 
 use crate::list::{print_numbers, print_targets};
+use crate::logged::{Logged, print_logged};
+use crate::message::{Kind, Sender, print_message};
 use fid_space::{Bytes, Numbers, Targets, print_number};
 use std::alloc::AllocError as Memory;
 use tree_model::{PlainTree, Reply};
@@ -32,6 +34,33 @@ pub enum Line {
         number: u32,
         reply: Reply,
     },
+    /// A target that a request is on, but for its home, executed its part.
+    Done {
+        number: u32,
+        target: u8,
+    },
+    /// A request was turned away, since a target that it needs is held by this one.
+    Busy {
+        number: u32,
+        holder: u32,
+    },
+    /// A request was turned away, since a target with this load has no room for so many bytes more.
+    Full {
+        number: u32,
+        target: u8,
+        load: u64,
+        need: u64,
+    },
+    /// A target commits what one request wrote before another goes on.
+    Shared {
+        target: u8,
+        number: u32,
+        writer: u32,
+    },
+    /// The message with this number was ignored.
+    Ignored(u32),
+    /// A `settle` delivered 100,000 messages, and more wait.
+    Unsettled,
     /// A request came after a later one of its client, whose number is the last.
     Stale {
         number: u32,
@@ -74,10 +103,29 @@ pub enum Line {
     Tree(PlainTree),
     /// The tree can't be shown, since this target doesn't serve.
     TreeState(u8),
+    /// The tree can't be shown, since this request is in flight.
+    TreeBusy(u32),
+    /// A target's update log has so many live records, whose lines come next.
+    Log {
+        target: u8,
+        live: u32,
+    },
+    /// A live record of an update log.
+    LogEntry(Logged),
+    /// A message that waits to be delivered; its request's number is 0 where it has none.
+    Message {
+        number: u32,
+        kind: Kind,
+        request: u32,
+        from: Sender,
+        to: u8,
+    },
     /// The scenario came to its end, and each target committed.
     EndClean,
     /// The scenario came to its end while this target didn't serve.
     EndUnclean(u8),
+    /// The scenario came to its end while this request was in flight.
+    EndUncleanRequest(u32),
 }
 
 impl Line {
@@ -89,6 +137,21 @@ impl Line {
         match self {
             Line::Accept { number, reply, on } => print_accept(*number, reply, *on, out),
             Line::Reply { number, reply } => print_reply(*number, reply, out),
+            Line::Done { number, target } => print_done(*number, *target, out),
+            Line::Busy { number, holder } => print_busy(*number, *holder, out),
+            Line::Full {
+                number,
+                target,
+                load,
+                need,
+            } => print_full(*number, *target, *load, *need, out),
+            Line::Shared {
+                target,
+                number,
+                writer,
+            } => print_shared(*target, *number, *writer, out),
+            Line::Ignored(message) => print_ignored(*message, out),
+            Line::Unsettled => out.append(b"unsettled\n"),
             Line::Stale { number, last } => print_stale(*number, *last, out),
             Line::Recovering { number, target } => print_recovering(*number, *target, out),
             Line::Stable { target, numbers } => print_stable(*target, numbers, out),
@@ -103,8 +166,19 @@ impl Line {
             Line::State { target, standing } => print_state(*target, *standing, out),
             Line::Tree(tree) => print_tree(tree, out),
             Line::TreeState(target) => print_tree_state(*target, out),
+            Line::TreeBusy(number) => print_tree_busy(*number, out),
+            Line::Log { target, live } => print_log(*target, *live, out),
+            Line::LogEntry(entry) => print_logged(entry, out),
+            Line::Message {
+                number,
+                kind,
+                request,
+                from,
+                to,
+            } => print_message(*number, *kind, *request, *from, *to, out),
             Line::EndClean => out.append(b"end clean\n"),
             Line::EndUnclean(target) => print_end_unclean(*target, out),
+            Line::EndUncleanRequest(number) => print_end_unclean_request(*number, out),
         }
     }
 }
@@ -137,6 +211,60 @@ pub fn print_reply(number: u32, reply: &Reply, out: &mut Bytes) -> Result<(), Me
     reply.print(&mut line)?;
     line.push(b'\n')?;
     out.append(line.bytes())
+}
+
+/// Adds the text of a `done` line.
+pub fn print_done(number: u32, target: u8, out: &mut Bytes) -> Result<(), Memory>
+    ensures ok { OnOk result (out.new ≡ out.old ++ two_text (codes "done ") number (codes " at ") target) }
+    ensures err { OnErr result (out.new ≡ out.old) }
+{
+    print_two("done ", u64::from(number), " at ", u64::from(target), out)
+}
+
+/// Adds the text of a `busy` line.
+pub fn print_busy(number: u32, holder: u32, out: &mut Bytes) -> Result<(), Memory>
+    ensures ok { OnOk result (out.new ≡ out.old ++ two_text (codes "busy ") number (codes " holder ") holder) }
+    ensures err { OnErr result (out.new ≡ out.old) }
+{
+    print_two(
+        "busy ",
+        u64::from(number),
+        " holder ",
+        u64::from(holder),
+        out,
+    )
+}
+
+/// Adds the text of a `full` line.
+pub fn print_full(
+    number: u32,
+    target: u8,
+    load: u64,
+    need: u64,
+    out: &mut Bytes,
+) -> Result<(), Memory>
+    ensures ok { OnOk result (out.new ≡ out.old ++ full_text number target load need) }
+    ensures err { OnErr result (out.new ≡ out.old) }
+{
+    let line = format!(in out.alloc(); "full {number} target {target} load {load} need {need}\n")?;
+    out.append(line.as_bytes())
+}
+
+/// Adds the text of a `shared` line.
+pub fn print_shared(target: u8, number: u32, writer: u32, out: &mut Bytes) -> Result<(), Memory>
+    ensures ok { OnOk result (out.new ≡ out.old ++ shared_text target number writer) }
+    ensures err { OnErr result (out.new ≡ out.old) }
+{
+    let line = format!(in out.alloc(); "shared {target} {number} {writer}\n")?;
+    out.append(line.as_bytes())
+}
+
+/// Adds the text of an `ignored` line.
+pub fn print_ignored(message: u32, out: &mut Bytes) -> Result<(), Memory>
+    ensures ok { OnOk result (out.new ≡ out.old ++ one_text (codes "ignored ") message) }
+    ensures err { OnErr result (out.new ≡ out.old) }
+{
+    print_one("ignored ", u64::from(message), out)
 }
 
 /// Adds the text of a `stale` line.
@@ -237,6 +365,30 @@ pub fn print_tree_state(target: u8, out: &mut Bytes) -> Result<(), Memory>
     ensures err { OnErr result (out.new ≡ out.old) }
 {
     print_one("tree state ", u64::from(target), out)
+}
+
+/// Adds the text of a `tree busy` line.
+pub fn print_tree_busy(number: u32, out: &mut Bytes) -> Result<(), Memory>
+    ensures ok { OnOk result (out.new ≡ out.old ++ one_text (codes "tree busy ") number) }
+    ensures err { OnErr result (out.new ≡ out.old) }
+{
+    print_one("tree busy ", u64::from(number), out)
+}
+
+/// Adds the text of a `log` line.
+pub fn print_log(target: u8, live: u32, out: &mut Bytes) -> Result<(), Memory>
+    ensures ok { OnOk result (out.new ≡ out.old ++ two_text (codes "log ") target (codes " live ") live) }
+    ensures err { OnErr result (out.new ≡ out.old) }
+{
+    print_two("log ", u64::from(target), " live ", u64::from(live), out)
+}
+
+/// Adds the text of an `end unclean request` line.
+pub fn print_end_unclean_request(number: u32, out: &mut Bytes) -> Result<(), Memory>
+    ensures ok { OnOk result (out.new ≡ out.old ++ one_text (codes "end unclean request ") number) }
+    ensures err { OnErr result (out.new ≡ out.old) }
+{
+    print_one("end unclean request ", u64::from(number), out)
 }
 
 /// Adds the text of an `end unclean target` line.

@@ -1,5 +1,5 @@
 ghost use Rattle.std.specs.Prelude.{codes};
-ghost use Rattle.scenario_text.specs.Worked.{IsTranscript};
+ghost use Rattle.scenario_text.specs.Worked.{AreCalm, AreOpen, AreWaiting, IsTranscript, MayLeave};
 
 /// The transcript of a first scenario: one file is made and shown. It stands here as text, so that what
 /// a program writes can be compared with what the definitions compute.
@@ -15,3 +15,26 @@ pub fn empty_transcript() -> &'static str
 {
     "tree 1 0\nnode [0x200000007:0x1:0x0] dir 0755 0 0 2\nstable 0 -\nend clean\n"
 }
+
+/// Places of scenarios that are calm, and places that aren't. The call does nothing: its contract is a law.
+pub fn calm_places()
+    ensures { AreCalm }
+{}
+
+/// Commands at which a request is open, and commands at which it isn't. The call does nothing: its contract
+/// is a law.
+pub fn open_requests()
+    ensures { AreOpen }
+{}
+
+/// Places at which a request has no answer, and places at which it has. The call does nothing: its contract
+/// is a law.
+pub fn waiting_requests()
+    ensures { AreWaiting }
+{}
+
+/// Places at which a settle may leave messages, and places at which it leaves none. The call does nothing:
+/// its contract is a law.
+pub fn settles_that_leave_messages()
+    ensures { MayLeave }
+{}

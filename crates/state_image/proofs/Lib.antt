@@ -1,6 +1,6 @@
 mod Answers
 mod Loops
-mod Lengths
+pub mod Lengths
 mod Again
 mod Only
 mod Shifted

@@ -1,9 +1,18 @@
 -- What appending a record to a log comes to.
-use Rattle.std.proofs.Common.{◌≡◌, ℕ, ◌+◌, ◌*◌, ◌≤◌, ◌<◌, List, length, None, ap, arith}
+use Rattle.std.proofs.Common.{◌≡◌, ℕ, ◌+◌, ◌*◌, ◌≤◌, ◌<◌, Bool, true, false, if◌then◌else◌, List, length, None, ap, arith}
 use Rattle.llog_store.specs.Numbers.{pad8}
-use Rattle.llog_store.specs.Log.{Log, log_text, record_size}
+use Rattle.llog_store.specs.Log.{Log, log_text, record_size, room, fits_in}
 use Rattle.llog_store.specs.Kept.{append_fault}
 use Rattle.llog_store.specs.Changes.{given_index, appended}
+use Rattle.target_state.specs.Rules.{most_redo_next}
+
+-- a record takes the next index, or the one behind it
+one_behind : (b : Bool) (n : ℕ) → (if b then n else n + 1) ≤ n + 1
+one_behind true n = omega arith
+one_behind false n = omega arith
+
+pub index_left : (log : Log) (p : List ℕ) → log.next ≤ most_redo_next → given_index log p < 256000
+index_left log p low = let a = one_behind (fits_in (room (length (log_text log))) (record_size (length p))) log.next in omega (arith, a, low)
 
 -- a record that is short enough, and has an index, is appended
 pub no_fault : (log : Log) (p : List ℕ) → length p ≤ 24576 → given_index log p < 256000 → append_fault log p ≡ None

@@ -11,22 +11,36 @@ use Rattle.object_store.specs.Objects.{ObjectMap}
 use Rattle.object_store.specs.ImageText.{image_text}
 use Rattle.state_image.specs.declared.front.Front.{Front}
 use Rattle.state_image.specs.FrontText.{front_text}
+use Rattle.state_image.specs.declared.image.Image.{Image}
 use Rattle.state_image.specs.StateText.{log_part}
 use Rattle.state_image.specs.StateText as spelled
+use Rattle.state_image.proofs.Lengths.{front_length}
 use Rattle.target_state.specs.State.{TargetState}
-use Rattle.target_state.specs.Image.{front_of, state_text}
+use Rattle.target_state.specs.Image.{front_of, image_of, state_text, size_with}
 
 part_length : (log : Log) → length (log_part log) ≡ 8 + length (log_text log)
 unfolding log_part
 part_length log = simp (length-append, wide32.len, length-zeros) (omega arith)
 
-pub state_length : (s : TargetState) → length (state_text s) ≡ length (front_text (front_of s)) + length (image_text s.objects) + 8 + length (log_text s.log)
+image_length : (i : Image) → length (spelled.state_text i) ≡ length (front_text i.front) + length (image_text i.objects) + 8 + length (log_text i.log)
 unfolding spelled.state_text
-state_length s =
-    let a = length-append (front_text (front_of s)) (image_text s.objects ++ log_part s.log) in
-    let b = length-append (image_text s.objects) (log_part s.log) in
-    let c = part_length s.log in
+image_length i =
+    let a = length-append (front_text i.front) (image_text i.objects ++ log_part i.log) in
+    let b = length-append (image_text i.objects) (log_part i.log) in
+    let c = part_length i.log in
     omega (arith, a, b, c)
+
+pub text_size : (i : Image) → length (spelled.state_text i) ≡ size_with i.front.seats i.objects i.log
+text_size i =
+    let a = image_length i in
+    let b = front_length i.front in
+    omega (arith, a, b)
+
+pub state_length : (s : TargetState) → length (state_text s) ≡ length (front_text (front_of s)) + length (image_text s.objects) + 8 + length (log_text s.log)
+state_length s = image_length (image_of s)
+
+pub state_size : (s : TargetState) → length (state_text s) ≡ size_with s.seats s.objects s.log
+state_size s = text_size (image_of s)
 
 -- ---- the length of a log by its last chunk
 

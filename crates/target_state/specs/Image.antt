@@ -1,10 +1,12 @@
 -- The image of a state, which a commit makes durable.
-use Rattle.std.specs.Prelude.{ℕ, ◌+◌, ◌≤◌, List, length}
+use Rattle.std.specs.Prelude.{ℕ, ◌+◌, ◌*◌, ◌≤◌, List, length, Option}
 use Rattle.llog_store.specs.Log.{Log, log_text}
+use Rattle.reply_cache.specs.declared.seats.Seat.{Seat}
 use Rattle.object_store.specs.Objects.{ObjectMap}
 use Rattle.object_store.specs.ImageText.{image_text}
 use Rattle.state_image.specs.declared.front.Front.{Front}
 use Rattle.state_image.specs.declared.image.Image.{Image}
+use Rattle.state_image.specs.FrontText.{taken_count}
 use Rattle.state_image.specs.StateText as spelled
 use Rattle.target_state.specs.State.{TargetState}
 
@@ -27,6 +29,10 @@ most_load = 5111808
 abbrev pub most_image : ℕ
 most_image = 32768000
 
--- objects and log leave room for the longest front, of 1,088 bytes, and for the length of the log
-abbrev pub IsBounded : ObjectMap → Log → Type 0
-IsBounded objects log = length (image_text objects) + length (log_text log) + 1096 ≤ most_image
+-- how long an image is: a front of 64 bytes, and 16 for each seat that is taken, the objects, 8 bytes, and the log
+abbrev pub size_with : List (Option Seat) → ObjectMap → Log → ℕ
+size_with seats objects log = 72 + 16 * taken_count seats + length (image_text objects) + length (log_text log)
+
+-- a disk takes it
+abbrev pub IsBounded : List (Option Seat) → ObjectMap → Log → Type 0
+IsBounded seats objects log = size_with seats objects log ≤ most_image

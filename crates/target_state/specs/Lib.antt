@@ -2,3 +2,4 @@ pub mod State
 pub mod Image
 pub mod Rules
 pub mod Commit
+pub mod Opening

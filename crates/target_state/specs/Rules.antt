@@ -1,5 +1,5 @@
 -- The rules at a target, as functions of its state.
-use Rattle.std.specs.Prelude.{ℕ, ◌+◌, Bool, true, false, nat_le, nat_lt, ◌==◌, ◌&&◌, if◌then◌else◌, List, [], ◌∷◌, ◌++◌, map, set, get_or, max, Option, Some, None}
+use Rattle.std.specs.Prelude.{ℕ, ◌+◌, Bool, true, false, nat_le, nat_lt, ◌==◌, ◌&&◌, ◌||◌, if◌then◌else◌, List, [], ◌∷◌, ◌++◌, map, length, set, get_or, max, Option, Some, None}
 use Rattle.std.specs.FinMap as writers
 use Rattle.fid_space.specs.declared.fid.Fid.{Fid}
 use Rattle.fid_space.specs.declared.class.Class.TheVariants as class
@@ -9,6 +9,7 @@ use Rattle.out_update.specs.declared.update.Update.{Update}
 use Rattle.out_update.specs.declared.update.Kind.TheVariants as kind
 use Rattle.out_update.specs.declared.update.Kind.{Kind}
 use Rattle.out_update.specs.declared.result.UpdateResult.{UpdateResult}
+use Rattle.reply_cache.specs.declared.seats.Seat.{Seat}
 use Rattle.reply_cache.specs.Seats.{put_seat}
 use Rattle.commit_sharing.specs.Pending as pending
 use Rattle.llog_store.specs.Changes.{appended}
@@ -18,7 +19,6 @@ use Rattle.update_record.specs.Spelling.{record_text, part_for, targets_from}
 use Rattle.update_record.specs.declared.operation.Record.{Record}
 use Rattle.update_record.specs.declared.message.Attempt.{Attempt}
 use Rattle.update_record.specs.declared.message.Facts.{Facts}
-use Rattle.state_image.specs.declared.front.Front.{Front}
 use Rattle.target_state.specs.declared.answers.HoldAnswer.{HoldAnswer}
 use Rattle.target_state.specs.declared.answers.HoldAnswer.TheVariants as hold
 use Rattle.target_state.specs.declared.answers.ReleaseAnswer.{ReleaseAnswer}
@@ -27,6 +27,7 @@ use Rattle.target_state.specs.declared.waiting.Waiting.{Waiting}
 use Rattle.target_state.specs.declared.holding.Taking.{Taking}
 use Rattle.target_state.specs.declared.holding.Taking.TheVariants.{Comes, Stays, TakesOver, Busy, Ended}
 use Rattle.target_state.specs.State.{TargetState, none_ended}
+use Rattle.target_state.specs.Image.{state_text}
 
 -- ---- who holds
 
@@ -110,20 +111,22 @@ updates_of (Some us) = us
 abbrev pub own_updates : ℕ → Record → List Update
 own_updates index r = updates_of (part_for index r.parts)
 
--- at the home the seat is put and the batch counted
-abbrev pub own_front : Front → Record → Front
-own_front f r = if r.id.master == f.index then record f { seats = put_seat f.seats r.client r.number r.reply; next_batch = max f.next_batch (r.id.batch + 1) } else f
+-- at the home of a record its seat is put
+abbrev pub own_seats : ℕ → List (Option Seat) → Record → List (Option Seat)
+own_seats index seats r = if r.id.master == index then put_seat seats r.client r.number r.reply else seats
 
-abbrev pub own_seat : TargetState → Record → TargetState
-own_seat s r = if r.id.master == s.index then record s { seats = put_seat s.seats r.client r.number r.reply; next_batch = max s.next_batch (r.id.batch + 1) } else s
+-- and its batch counted
+abbrev pub own_batch : ℕ → ℕ → Record → ℕ
+own_batch index next r = if r.id.master == index then max next (r.id.batch + 1) else next
 
 abbrev pub waiting_of : Record → Waiting
 waiting_of r = record { number = r.number; master = r.id.master; batch = r.id.batch }
 
--- a record is done: its part, the log, the notes of what isn't committed, its seat at the home
-abbrev pub noted : TargetState → Record → List Update → TargetState
-noted s r us =
+-- a record is done: its seat at the home, its part, the log, the notes of what isn't committed
+abbrev pub done_as : TargetState → Record → List Update → TargetState
+done_as s r us =
     record s {
+      seats = own_seats s.index s.seats r;
       log = appended s.log (record_text r);
       objects = after_all s.objects us;
       writers = pending.noted r.number (targets_from 0 r.parts) s.writers (map (λ (u : Update). u.fid) us);
@@ -132,7 +135,7 @@ noted s r us =
     }
 
 abbrev pub done : TargetState → Record → TargetState
-done s r = own_seat (noted s r (own_updates s.index r)) r
+done s r = done_as s r (own_updates s.index r)
 
 -- the target is let go, and the attempt noted as ended
 abbrev pub let_go : TargetState → Attempt → TargetState
@@ -140,7 +143,7 @@ let_go s by = record s { holder = None; ended = with_ended s.ended by }
 
 -- an attempt executes
 abbrev pub executed : TargetState → Attempt → Record → TargetState
-executed s by r = let_go (record (done s r) { clock = r.stamp }) by
+executed s by r = let_go (record (done s r) { clock = r.stamp; next_batch = own_batch s.index s.next_batch r }) by
 
 abbrev pub after_execute : TargetState → Attempt → Record → TargetState
 after_execute s by r = if is_held_by s.holder by then executed s by r else s
@@ -161,3 +164,20 @@ after_release s by =
 -- no one holds it, and no attempt has ended
 abbrev pub forgotten : TargetState → TargetState
 forgotten s = record s { holder = None; ended = none_ended }
+
+-- ---- what is redone
+
+-- the greatest load at which a record is redone, and the greatest index that its log gives next
+abbrev pub most_redo_load : ℕ
+most_redo_load = 32500000
+
+abbrev pub most_redo_next : ℕ
+most_redo_next = 255000
+
+abbrev pub is_passed_over : TargetState → Bool
+is_passed_over s = nat_lt most_redo_load (length (state_text s)) || nat_lt most_redo_next s.log.next
+
+-- A record is done again, where there is room. The clock stays, and no batch is counted: batches begin anew with
+-- the epoch.
+abbrev pub after_redo : TargetState → Record → TargetState
+after_redo s r = if is_passed_over s then s else done s r

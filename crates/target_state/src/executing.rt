@@ -7,7 +7,7 @@ ghost use Rattle.llog_store.specs.Changes.{appended};
 ghost use Rattle.object_store.specs.ImageText.{image_text};
 ghost use Rattle.object_store.specs.Meaning.{after_all};
 ghost use Rattle.update_record.specs.Spelling.{FitsRecord, record_text};
-ghost use Rattle.target_state.specs.Rules.{is_held_by, own_updates, own_front, done, after_execute};
+ghost use Rattle.target_state.specs.Rules.{is_held_by, own_updates, own_seats, own_batch, done, after_execute, most_redo_load, most_redo_next, after_redo};
 ghost use Rattle.target_state.specs.Image.{state_text, most_load};
 
 use crate::answers::ExecuteAnswer;
@@ -23,6 +23,12 @@ use std::alloc::{AllocError as Memory, Global};
 use std::mem;
 use update_record::{Attempt, Record};
 
+/// The greatest load at which a record is redone.
+const MOST_REDO_LOAD: u64 = 32_500_000;
+
+/// The greatest index which the log may give next where a record is redone.
+const MOST_REDO_NEXT: u32 = 255_000;
+
 /// The objects that updates write.
 fn written(alloc: Global, updates: &[Update]) -> Result<Vec<Fid>, Memory>
     ensures { IfOk result (λ fids. fids.items ≡ map (λ (u : Update). u.fid) updates.now) }
@@ -37,7 +43,7 @@ fn written(alloc: Global, updates: &[Update]) -> Result<Vec<Fid>, Memory>
 /// Adds a record to a log, which has an index left for it.
 fn append(log: &mut Llog, payload: &[u8]) -> Result<(), Memory>
     requires short { length payload.now ≤ 24576 }
-    requires room { length (log_text log.old) ≤ most_load }
+    requires next { log.old.next ≤ most_redo_next }
     ensures ok { OnOk result (log.new ≡ appended log.old payload.now) }
     ensures grows { OnOk result (length (log_text log.new) ≤ length (log_text log.old) + 49240) }
     ensures err { OnErr result (log.new ≡ log.old) }
@@ -74,16 +80,25 @@ fn apply(
     }
 }
 
-/// At the home, puts the seat and counts the batch.
+/// At the home of a record, puts its seat.
 fn seat(front: &mut Front, entry: &Record)
-    requires entry { FitsRecord entry.now }
-    requires batch { entry.now.id.batch ≤ 2 ^ 63 }
-    ensures { front.new ≡ own_front front.old entry.now }
+    requires { FitsRecord entry.now }
+    ensures { front.new ≡ record front.old { seats = own_seats front.old.index front.old.seats entry.now } }
 {
     if entry.id.master == front.index {
         front.seats.put(entry.client, entry.number, &entry.reply);
-        front.next_batch = front.next_batch.max(entry.id.batch + 1);
     }
+}
+
+/// The batch that a target gives next, which counts that of a record at its home.
+fn next_batch(front: &Front, entry: &Record) -> u64
+    requires { entry.now.id.batch ≤ 2 ^ 63 }
+    ensures { result ≡ own_batch front.now.index front.now.next_batch entry.now }
+{
+    if entry.id.master != front.index {
+        return front.next_batch;
+    }
+    front.next_batch.max(entry.id.batch + 1)
 }
 
 impl State {
@@ -91,8 +106,8 @@ impl State {
     /// objects change they aren't here, so that want of memory leaves none.
     fn carry_out(&mut self, entry: &Record) -> Result<(), Memory>
         requires entry { FitsRecord entry.now }
-        requires load { length (state_text self.old) ≤ most_load }
-        requires batch { entry.now.id.batch ≤ 2 ^ 63 }
+        requires load { length (state_text self.old) ≤ most_redo_load }
+        requires next { self.old.log.next ≤ most_redo_next }
         requires transno { self.old.transno ≤ 2 ^ 63 }
         ensures { OnOk result (self.new ≡ done self.old entry.now) }
     {
@@ -127,9 +142,25 @@ impl State {
         if !is_held_by(self.holder, by) {
             return Ok(ExecuteAnswer::Ended);
         }
+        let _next = self.log.next();
+        lengths_of_logs();
         self.carry_out(entry)?;
         self.front.clock = entry.stamp;
+        self.front.next_batch = next_batch(&self.front, entry);
         self.let_go(by);
         Ok(ExecuteAnswer::Done)
+    }
+
+    /// Does a record again, at a recovery. It is passed over, and nothing is changed, where the load is above
+    /// 32,500,000 bytes or the log's next index above 255,000. After want of memory it may only be dropped.
+    pub fn redo(&mut self, entry: &Record) -> Result<(), Memory>
+        requires entry { FitsRecord entry.now }
+        requires transno { self.old.transno ≤ 2 ^ 63 }
+        ensures { OnOk result (self.new ≡ after_redo self.old entry.now) }
+    {
+        if self.load() > MOST_REDO_LOAD || self.log.next() > MOST_REDO_NEXT {
+            return Ok(());
+        }
+        self.carry_out(entry)
     }
 }

@@ -10,10 +10,12 @@ mod committing;
 mod executing;
 mod holding;
 mod image;
+mod opening;
 mod state;
 mod telling;
 mod waiting;
 
 pub use answers::{ExecuteAnswer, HoldAnswer, ReleaseAnswer};
+pub use opening::what_was_committed_is_read_back;
 pub use state::State;
 pub use waiting::{Committed, Marks, Waiting};

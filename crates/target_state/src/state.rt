@@ -41,7 +41,7 @@ impl Model for State {
 
     ghost view = { λ s. record { targets = s.front.cluster; index = s.front.index; epoch = s.front.epoch; transno = s.front.transno; clock = s.front.clock; next_batch = s.front.next_batch; mark = s.front.mark; seats = s.front.seats; objects = s.objects; log = s.log; waiting = s.waiting; writers = s.pending; holder = s.holder; ended = s.ended } };
 
-    ghost invariant = { λ s. IfSome s.holder (λ h. h.master < 16) × IsBounded s.objects s.log };
+    ghost invariant = { λ s. IfSome s.holder (λ h. h.master < 16) × IsBounded s.front.seats s.objects s.log };
 }
 
 impl State {
@@ -77,11 +77,12 @@ impl State {
         ensures value { result ≡ length (state_text self.now) }
         ensures fits { result ≤ most_image }
     {
+        self.fits_a_disk();
         u64::from(self.front.size()) + self.objects.size() + 8 + log_length(&self.log)
     }
 
     /// Its image fits a disk, whatever was executed. The call does nothing: its contract is a law.
-    #[tactic(auto, using(crate::proofs::Lengths::state_length))]
+    #[tactic(auto, using(crate::proofs::Lengths::state_size))]
     pub fn fits_a_disk(&self)
         ensures { length (state_text self.now) ≤ most_image }
     {

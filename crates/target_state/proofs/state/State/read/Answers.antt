@@ -1,0 +1,12 @@
+use Rattle.std.proofs.Common.{◌<◌, arith}
+use Rattle.target_state.proofs.Bounds.{read_bounded}
+use Rattle.target_state.proofs.state.State.read.Goals as goal
+
+pub restored-requires : goal.restored-requires
+restored-requires c =
+    let bytes = c.args.bytes.now in
+    let image = c.in-Ok.image in
+    let targets_low : c.args.cluster < 256 = omega (arith, c.targets-targets.type_inv, c.targets-targets.ensures) in
+    let index_low : c.args.index < 256 = omega (arith, c.ranges.index.fits) in
+    let written = c.a_state_was_written_so.ensures c.args.cluster c.args.index bytes image (λ i. omega (arith, c.type_inv.bytes i)) targets_low index_low c.in-Ok.ensures in
+    read_bounded image bytes written.3 c.requires

@@ -6,9 +6,13 @@
 #![tactic(auto)]
 
 mod fault;
+mod laws;
 mod node;
+mod opening;
 mod putting;
+mod recovering;
 mod telling;
 
-pub use fault::{NodeDown, NodeFault};
+pub use fault::{NodeDown, NodeFault, NodeOpenFault};
+pub use laws::{a_committed_state_is_held, a_stopped_commit_leaves_either_state};
 pub use node::Node;

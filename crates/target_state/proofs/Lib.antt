@@ -3,3 +3,6 @@ pub mod Chunking
 pub mod Appending
 pub mod Listing
 pub mod Bounds
+pub mod Ids
+pub mod Cancelling
+pub mod Greatest

@@ -3,3 +3,4 @@ pub mod Image
 pub mod Rules
 pub mod Commit
 pub mod Opening
+pub mod Marking

@@ -23,7 +23,7 @@ fn numbers(alloc: Global, items: &[Waiting]) -> Result<Numbers, Memory>
 }
 
 /// The greater of two batches.
-fn later(most: Option<u64>, batch: u64) -> u64
+pub(crate) fn later(most: Option<u64>, batch: u64) -> u64
     ensures { result ≡ later most batch }
 {
     match most {

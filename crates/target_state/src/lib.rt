@@ -10,12 +10,15 @@ mod committing;
 mod executing;
 mod holding;
 mod image;
+mod marking;
 mod opening;
+mod payload;
 mod state;
 mod telling;
 mod waiting;
 
 pub use answers::{ExecuteAnswer, HoldAnswer, ReleaseAnswer};
 pub use opening::what_was_committed_is_read_back;
+pub use payload::a_record_tells_its_master_and_batch;
 pub use state::State;
 pub use waiting::{Committed, Marks, Waiting};

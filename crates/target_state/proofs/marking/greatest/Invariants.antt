@@ -1,0 +1,9 @@
+use Rattle.std.proofs.Common.{◌-◌}
+use Rattle.target_state.proofs.Greatest.{GoesOn}
+use Rattle.target_state.proofs.marking.greatest.Given as goal
+
+abbrev pub invariant-loop-index : goal.invariant-loop-index
+invariant-loop-index l = GoesOn l.greatest l.waiting l.from l.log
+
+abbrev pub decreases-loop-index : goal.decreases-loop-index
+decreases-loop-index l = l.log.next - l.from

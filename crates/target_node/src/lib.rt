@@ -7,6 +7,7 @@
 
 mod fault;
 mod laws;
+mod marking;
 mod node;
 mod opening;
 mod putting;

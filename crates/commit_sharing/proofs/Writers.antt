@@ -1,15 +1,15 @@
 -- Writers: what is noted and put back is as before, and the writer of an object is the last that was noted.
-use Rattle.std.proofs.Common.{◌≡◌, ℕ, Bool, true, false, ◌||◌, cond, List, [], ◌∷◌, ◌++◌, Option, Some, None, IsSome, refl, sym, ap, ◌∙◌, subst}
+use Rattle.std.proofs.Common.{◌≡◌, ℕ, ◌≤◌, IfSome, Bool, true, false, ◌||◌, cond, List, [], ◌∷◌, ◌++◌, Option, Some, None, IsSome, refl, sym, ap, ◌∙◌, subst}
 use Rattle.std.specs.List.{AllByRecursion}
 use Rattle.std.specs.Ordering.{eq_by_cmp}
 use Rattle.std.specs.Cmp.{eq_by_cmp_equiv}
-use Rattle.std.specs.FinMap.{get, insert, empty, get-insert, get-remove, get-empty, same_map}
+use Rattle.std.specs.FinMap.{get, insert, remove, empty, from_entries, get-insert, get-remove, get-empty, same_map}
 use Rattle.std.proofs.lemmas.List.{append-nil, append_assoc}
 use Rattle.fid_space.specs.declared.fid.Fid.{Fid}
 use Rattle.tree_model.specs.Fids.{fid_cmp, same_fid}
 use Rattle.tree_model.proofs.Maps.{fids_total, exact_fids}
 use Rattle.tree_model.proofs.Fids.{fid_ties, told_same}
-use Rattle.commit_sharing.specs.Pending.{Writers, noted, put_back}
+use Rattle.commit_sharing.specs.Pending.{Writers, AreRequests, noted, put_back}
 use Rattle.commit_sharing.specs.WriterLaws.{Note, after_notes, wrote, IsLastWriter, WritersAreLast}
 
 -- what was put in place of a value and then put back is that value
@@ -34,6 +34,23 @@ module _ (m : Writers) (f : Fid) (w : ℕ × ℕ) where
 
 pub is_noted : (m : Writers) (f : Fid) (w : ℕ × ℕ) → IsSome (get (insert m f w) f)
 is_noted m f w = subst (λ o. IsSome o) (sym (get-insert fids_total m f w f ∙ ap (λ b. cond b (Some w) (get m f)) ((eq_by_cmp_equiv fids_total).refl f))) refl
+
+-- ---- each is a request
+
+one_of : (b : Bool) (o g : Option (ℕ × ℕ)) → IfSome o (λ w. 1 ≤ w.0) → IfSome g (λ w. 1 ≤ w.0) → IfSome (cond b o g) (λ w. 1 ≤ w.0)
+one_of true o g h k = h
+one_of false o g h k = k
+
+pub no_requests : (es : List (Fid × (ℕ × ℕ))) → es ≡ [] → AreRequests (from_entries es)
+no_requests es is = subst (λ (l : List (Fid × (ℕ × ℕ))). AreRequests (from_entries l)) (sym is) (λ f. subst (λ o. IfSome o (λ w. 1 ≤ w.0)) (sym (get-empty fid_cmp f)) tt)
+
+pub more_requests : (m : Writers) (f : Fid) (w : ℕ × ℕ) → AreRequests m → 1 ≤ w.0 → AreRequests (insert m f w)
+more_requests m f w all set q = subst (λ o. IfSome o (λ w. 1 ≤ w.0)) (sym (get-insert fids_total m f w q)) (one_of (eq_by_cmp fid_cmp q f) (Some w) (get m q) set (all q))
+
+pub less_requests : (m : Writers) (f : Fid) → AreRequests m → AreRequests (remove m f)
+less_requests m f all q = subst (λ o. IfSome o (λ w. 1 ≤ w.0)) (sym (get-remove fids_total m f q)) (one_of (eq_by_cmp fid_cmp q f) None (get m q) tt (all q))
+
+-- ---- the last one
 
 either : {A : Type 0} (a b : Bool) (v g : A) → cond b v (cond a v g) ≡ cond (a || b) v g
 either true true v g = refl

@@ -1,6 +1,6 @@
 -- The last writers of a target's objects since its last commit.
-use Rattle.std.specs.Prelude.{ℕ, List, [], ◌∷◌, Option, Some, None}
-use Rattle.std.specs.FinMap.{FinMap, insert, remove}
+use Rattle.std.specs.Prelude.{ℕ, ◌≤◌, IfSome, List, [], ◌∷◌, Option, Some, None}
+use Rattle.std.specs.FinMap.{FinMap, get, insert, remove}
 use Rattle.std.specs.FinMap as map
 use Rattle.std.specs.Coded.{Coded, coded×, coded_ℕ}
 use Rattle.fid_space.specs.declared.fid.Fid.{Fid}
@@ -12,6 +12,10 @@ Writers = FinMap fid_cmp (ℕ × ℕ)
 
 abbrev pub coded_writers : Coded Writers
 coded_writers = map.code coded_fid (coded× coded_ℕ coded_ℕ)
+
+-- each is a request: its number is 1 or more
+abbrev pub AreRequests : Writers → Type 0
+AreRequests writers = (f : Fid) → IfSome (get writers f) (λ w. 1 ≤ w.0)
 
 -- the writers after a request wrote objects
 abbrev pub noted : ℕ → ℕ → Writers → List Fid → Writers

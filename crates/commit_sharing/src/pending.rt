@@ -1,4 +1,4 @@
-ghost use Rattle.std.specs.Prelude.{◌≡◌, IfOk, IsSome, OnOk, OnErr};
+ghost use Rattle.std.specs.Prelude.{◌≡◌, ◌≤◌, IfOk, IfSome, IsSome, OnOk, OnErr};
 ghost use Rattle.std.specs.FinMap as map;
 ghost use Rattle.commit_sharing.specs.Pending.{noted, put_back};
 
@@ -16,13 +16,15 @@ pub struct Pending {
 
 impl Model for Pending {
     ghost use Rattle.std.specs.FinMap.{from_entries};
-    ghost use Rattle.commit_sharing.specs.Pending.{Writers, coded_writers};
+    ghost use Rattle.commit_sharing.specs.Pending.{Writers, AreRequests, coded_writers};
 
     ghost Value = { Writers };
 
     ghost coded = { coded_writers };
 
     ghost view = { λ p. from_entries p.writers.entries };
+
+    ghost invariant = { λ p. AreRequests (from_entries p.writers.entries) };
 }
 
 impl Pending {
@@ -35,9 +37,11 @@ impl Pending {
         }
     }
 
-    /// Notes that a request wrote objects. Want of memory changes nothing. Each object costs a look-up in an
-    /// ordered map; the call nests as deep as there are objects, which are at most those of one part.
+    /// Notes that a request, whose number is 1 or more, wrote objects. Want of memory changes nothing. Each
+    /// object costs a look-up in an ordered map; the call nests as deep as there are objects, which are at
+    /// most those of one part.
     pub fn note(&mut self, number: u32, on: Targets, written: &[Fid]) -> Result<(), Memory>
+        requires { 1 ≤ number }
         ensures ok { OnOk result (self.new ≡ noted number on self.old written.now) }
         ensures err { OnErr result (self.new ≡ self.old) }
     {
@@ -58,8 +62,10 @@ impl Pending {
 
     /// Notes one writer, and gives the one before.
     fn put(&mut self, fid: Fid, number: u32, on: Targets) -> Result<Option<(u32, Targets)>, Memory>
+        requires { 1 ≤ number }
         ensures ok { OnOk result (self.new ≡ map.insert self.old fid (number, on)) }
         ensures before { IfOk result (λ before. before ≡ map.get self.old fid) }
+        ensures number { IfOk result (λ before. IfSome before (λ w. 1 ≤ w.0)) }
         ensures err { OnErr result (self.new ≡ self.old) }
     {
         let before = self.writers.insert(fid, (number, on))?;
@@ -68,7 +74,8 @@ impl Pending {
 
     /// Puts back what was noted before of an object of which something is noted now.
     fn put_back(&mut self, fid: Fid, before: Option<(u32, Targets)>)
-        requires { IsSome (map.get self.old fid) }
+        requires noted { IsSome (map.get self.old fid) }
+        requires number { IfSome before (λ w. 1 ≤ w.0) }
         ensures { self.new ≡ put_back self.old fid before }
     {
         match before {
@@ -85,7 +92,8 @@ impl Pending {
 
     /// The number of the request that wrote an object last, and the targets that it is on. It takes no memory.
     pub fn writer(&self, fid: Fid) -> Option<(u32, Targets)>
-        ensures { result ≡ map.get self.now fid }
+        ensures value { result ≡ map.get self.now fid }
+        ensures number { IfSome result (λ w. 1 ≤ w.0) }
     {
         self.writers.get(&fid).copied()
     }

@@ -1,14 +1,15 @@
 -- The greatest batches of masters, in a table, from one live record after another.
-use Rattle.std.proofs.Common.{◌≡◌, ℕ, zero, suc, ◌+◌, ◌-◌, ◌<◌, ◌≤◌, Bool, true, false, nat_le, nat_lt, leb, ltb, ◌&&◌, if◌then◌else◌, List, [], ◌∷◌, ◌++◌, length, get_or, set, replicate, Option, Some, None, refl, sym, ap, ◌∙◌, arith, inl, inr, append_assoc}
+use Rattle.std.proofs.Common.{◌≡◌, ℕ, zero, suc, ◌+◌, ◌-◌, ◌<◌, ◌≤◌, Bool, true, false, nat_le, nat_lt, leb, ltb, ◌&&◌, if◌then◌else◌, List, [], ◌∷◌, ◌++◌, length, get_or, set, replicate, Option, Some, None, refl, sym, ap, ◌∙◌, arith, inl, inr, append_assoc, ◌⊎◌, Contains, IfSome, subst, ◌≢◌}
+use Rattle.std.specs.List.{AllByRecursion}
 use Rattle.std.proofs.lemmas.Bool.{leb-true, le-leb, lt-ltb, le-ltb}
 use Rattle.std.proofs.lemmas.Bool.Decides.{eqb_tells, leb_tells}
-use Rattle.std.proofs.lemmas.Option.{none-some}
+use Rattle.std.proofs.lemmas.Option.{none-some, same_Some}
 use Rattle.std.proofs.lemmas.List.{get_or-set_same, get_or-set_other, length-set}
 use Rattle.llog_store.specs.Log.{Entry, Log, IsLog}
 use Rattle.llog_store.specs.Changes.{first_live, live_payloads}
 use Rattle.target_state.specs.declared.waiting.Waiting.{Waiting}
 use Rattle.target_state.specs.Commit.{later, mark_of}
-use Rattle.target_state.specs.Marking.{id_in, waits, stable_id, stable_ids, greatest_batch, greatest_batches, raised, noted, AreGreatest, told}
+use Rattle.target_state.specs.Marking.{id_in, waits, stable_id, stable_ids, greatest_batch, greatest_batches, IsGreatest, raised, noted, AreGreatest, told}
 use Rattle.target_state.proofs.Cancelling.{Rises, log_rises, none_first, some_first, found, both_true}
 
 -- ---- the payloads of the live records from an index on
@@ -155,3 +156,60 @@ told_from (suc n) master table ids are low =
 
 pub all_told : (table : List (Option ℕ)) (ids : List (ℕ × ℕ)) → AreGreatest table ids → told 16 0 table ≡ greatest_batches 16 0 ids
 all_told table ids are = told_from 16 0 table ids are (omega arith)
+
+-- ---- the greatest of all
+
+-- of a batch and those of a master
+abbrev Holds : ℕ → Option ℕ → List (ℕ × ℕ) → Option ℕ → Type 0
+Holds master most ids None = (most ≡ None) × AllByRecursion (λ (id : ℕ × ℕ). id.0 ≡ master → ⊥) ids
+Holds master most ids (Some batch) = ((most ≡ Some batch) ⊎ Contains ids (master, batch)) × IfSome most (λ m. m ≤ batch) × AllByRecursion (λ (id : ℕ × ℕ). id.0 ≡ master → id.1 ≤ batch) ids
+
+first_in : (master : ℕ) (id : ℕ × ℕ) (ids : List (ℕ × ℕ)) → id.0 ≡ master → Contains (id ∷ ids) (master, id.1)
+first_in master id ids same = (0, omega arith, ap (λ (m : ℕ). (m, id.1)) same)
+
+later_in : (id x : ℕ × ℕ) (ids : List (ℕ × ℕ)) → Contains ids x → Contains (id ∷ ids) x
+later_in id x ids h = let low = h.1 in (suc h.0, omega (arith, low), h.2)
+
+from_later : (master : ℕ) (most : Option ℕ) (id : ℕ × ℕ) (ids : List (ℕ × ℕ)) (batch : ℕ) → id.0 ≡ master → later most id.1 ≡ batch → (most ≡ Some batch) ⊎ Contains (id ∷ ids) (master, batch)
+from_later master None id ids batch same is = inr (subst (λ (b : ℕ). Contains (id ∷ ids) (master, b)) is (first_in master id ids same))
+from_later master (Some m) id ids batch same is =
+    elim (leb_tells id.1 m) [
+      | inl t ↦ inl (ap (λ (b : ℕ). Some b) (let low = t.1 in let e : m ≡ batch = omega (arith, low, is) in e))
+      | inr t ↦ inr (subst (λ (b : ℕ). Contains (id ∷ ids) (master, b)) (let low = t.1 in let e : id.1 ≡ batch = omega (arith, low, is) in e) (first_in master id ids same))
+    ]
+
+later_least : (most : Option ℕ) (b batch : ℕ) → later most b ≤ batch → IfSome most (λ m. m ≤ batch) × (b ≤ batch)
+later_least None b batch low = (tt, low)
+later_least (Some m) b batch low = (omega (arith, low), omega (arith, low))
+
+with_own : (master : ℕ) (most : Option ℕ) (id : ℕ × ℕ) (ids : List (ℕ × ℕ)) (o : Option ℕ) → id.0 ≡ master → Holds master (Some (later most id.1)) ids o → Holds master most (id ∷ ids) o
+with_own master most id ids None same h = absurd (none-some (later most id.1) (sym h.0))
+with_own master most id ids (Some batch) same h =
+    let low = later_least most id.1 batch h.1 in
+    let from : (most ≡ Some batch) ⊎ Contains (id ∷ ids) (master, batch) = elim h.0 [
+      | inl is ↦ from_later master most id ids batch same (same_Some (later most id.1) batch is)
+      | inr there ↦ inr (later_in id (master, batch) ids there)
+    ] in
+    (from, low.0, ((λ _. low.1), h.2))
+
+with_other : (master : ℕ) (most : Option ℕ) (id : ℕ × ℕ) (ids : List (ℕ × ℕ)) (o : Option ℕ) → id.0 ≢ master → Holds master most ids o → Holds master most (id ∷ ids) o
+with_other master most id ids None differ h = (h.0, (differ, h.1))
+with_other master most id ids (Some batch) differ h =
+    let from : (most ≡ Some batch) ⊎ Contains (id ∷ ids) (master, batch) = elim h.0 [ inl is ↦ inl is | inr there ↦ inr (later_in id (master, batch) ids there) ] in
+    (from, h.1, ((λ same. absurd (differ same)), h.2))
+
+holds : (master : ℕ) (most : Option ℕ) (ids : List (ℕ × ℕ)) → Holds master most ids (greatest_batch master most ids)
+holds master None [] = (refl, tt)
+holds master (Some m) [] = (inl refl, omega arith, tt)
+holds master most (id ∷ ids) =
+    elim (eqb_tells id.0 master) [
+      | inl t ↦ rw t.0 (with_own master most id ids (greatest_batch master (Some (later most id.1)) ids) t.1 (holds master (Some (later most id.1)) ids))
+      | inr t ↦ rw t.0 (with_other master most id ids (greatest_batch master most ids) t.1 (holds master most ids))
+    ]
+
+told_of : (master : ℕ) (ids : List (ℕ × ℕ)) (o : Option ℕ) → Holds master None ids o → IsGreatest master ids o
+told_of master ids None h = h.1
+told_of master ids (Some batch) h = (elim h.0 [ inl is ↦ absurd (none-some batch is) | inr there ↦ there ], h.2)
+
+pub is_greatest : (master : ℕ) (ids : List (ℕ × ℕ)) → IsGreatest master ids (greatest_batch master None ids)
+is_greatest master ids = told_of master ids (greatest_batch master None ids) (holds master None ids)

@@ -1,5 +1,6 @@
 -- Which records a mark cancels, and up to which batch a target is told that those of a master are committed.
-use Rattle.std.specs.Prelude.{◌≡◌, ◌<◌, ℕ, zero, suc, ◌+◌, Bool, false, nat_le, nat_lt, ◌==◌, ◌&&◌, ◌||◌, if◌then◌else◌, List, [], ◌∷◌, ◌++◌, map, length, take, drop, set, get_or, max, Option, Some, None}
+use Rattle.std.specs.Prelude.{◌≡◌, ◌<◌, ◌≤◌, Contains, ℕ, zero, suc, ◌+◌, Bool, false, nat_le, nat_lt, ◌==◌, ◌&&◌, ◌||◌, if◌then◌else◌, List, [], ◌∷◌, ◌++◌, map, length, take, drop, set, get_or, max, Option, Some, None}
+use Rattle.std.specs.List.{AllByRecursion}
 use Rattle.std.specs.Int.{w32, w64}
 use Rattle.byte_grammar.specs.Numbers.{worth}
 use Rattle.llog_store.specs.Log.{Entry, Log}
@@ -61,6 +62,11 @@ stable_ids ws (payload ∷ payloads) = stable_id ws (id_in payload) ++ stable_id
 abbrev pub greatest_batch : ℕ → Option ℕ → List (ℕ × ℕ) → Option ℕ
 greatest_batch master most [] = most
 greatest_batch master most (id ∷ ids) = greatest_batch master (if id.0 == master then Some (later most id.1) else most) ids
+
+-- a batch is the greatest of a master's; there is none where the master has none
+abbrev pub IsGreatest : ℕ → List (ℕ × ℕ) → Option ℕ → Type 0
+IsGreatest master ids None = AllByRecursion (λ (id : ℕ × ℕ). id.0 ≡ master → ⊥) ids
+IsGreatest master ids (Some most) = Contains ids (master, most) × AllByRecursion (λ (id : ℕ × ℕ). id.0 ≡ master → id.1 ≤ most) ids
 
 -- so many masters, from one on, each with the greatest of its batches
 unfoldable pub greatest_batches : ℕ → ℕ → List (ℕ × ℕ) → List (ℕ × ℕ)

@@ -18,6 +18,7 @@ mod telling;
 mod waiting;
 
 pub use answers::{ExecuteAnswer, HoldAnswer, ReleaseAnswer};
+pub use marking::a_batch_told_is_the_greatest;
 pub use opening::what_was_committed_is_read_back;
 pub use payload::a_record_tells_its_master_and_batch;
 pub use state::State;

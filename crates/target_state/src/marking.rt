@@ -1,12 +1,12 @@
 //! Which records are durable on all their targets, and up to which batch those of a master are durable here.
 
-ghost use Rattle.std.specs.Prelude.{◌≡◌, ◌≤◌, ◌<◌, ◌++◌, ℕ, length, get_or, max, IfOk, IfSome, OnOk, None, true, if◌then◌else◌};
+ghost use Rattle.std.specs.Prelude.{◌≡◌, ◌≤◌, ◌<◌, ◌++◌, ℕ, List, length, IfOk, IfSome, OnOk, None, true, if◌then◌else◌};
 ghost use Rattle.llog_store.specs.Log.{log_text, is_live, live_count};
 ghost use Rattle.llog_store.specs.Changes.{live_payloads};
 ghost use Rattle.llog_store.specs.Changes as changes;
 ghost use Rattle.target_state.specs.Commit.{mark_of};
 ghost use Rattle.target_state.specs.Rules.{is_held_by};
-ghost use Rattle.target_state.specs.Marking.{id_in, is_up_to, cancelled_from, cancelled_log, cancelled, marked, waits, raised, noted, stable_ids, AreGreatest, told, stable_marks};
+ghost use Rattle.target_state.specs.Marking.{id_in, is_up_to, cancelled_from, cancelled_log, cancelled, marked, waits, raised, noted, stable_ids, AreGreatest, greatest_batch, IsGreatest, told, stable_marks};
 
 use crate::committing::later;
 use crate::holding::is_held_by;
@@ -136,6 +136,13 @@ fn told(alloc: Global, greatest: &[Option<u64>; 16]) -> Result<Marks, Memory>
     }
     Ok(marks)
 }
+
+/// What is told of a master is the greatest of its batches, and nothing where it has none. The call does
+/// nothing: its contract is a law.
+#[tactic(auto, using(crate::proofs::Greatest::is_greatest))]
+pub fn a_batch_told_is_the_greatest()
+    ensures { (master : ℕ) (ids : List (ℕ × ℕ)) → IsGreatest master ids (greatest_batch master None ids) }
+{}
 
 impl State {
     /// Cancels the live records of a master up to a batch, in memory alone. It passes each live record of the

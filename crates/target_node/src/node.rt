@@ -8,6 +8,7 @@ ghost use Rattle.target_state.specs.State.{TargetState, first_state};
 ghost use Rattle.target_state.specs.Image.{state_text, most_load};
 ghost use Rattle.target_state.specs.Commit.{is_empty, packed, committed, listed};
 ghost use Rattle.target_state.specs.Rules.{is_held_by, taken, after_hold, answer_as, after_execute, after_release, release_answer};
+ghost use Rattle.target_state.specs.Holding.{FitsHold};
 ghost use Rattle.target_node.specs.Node.{StandsAs, IsSettledAs, OpensAsEither, CommitCauses, LeavesAll, FailsToFormat};
 
 use crate::fault::{NodeDown, NodeFault};
@@ -81,6 +82,8 @@ impl<D: Disk> Node<D> {
         requires master { by.master < 16 }
         requires ask { All FitsUpdate ask.now }
         ensures answer { IfOk result (λ a. a ≡ answer_as self.old.state (length (state_text self.old.state)) ask.now (taken self.old.state by)) }
+        // What is told has a spelling.
+        ensures spelled { IfOk result FitsHold }
         ensures state { OnOk result (self.new.state ≡ after_hold self.old.state by) }
         ensures err { OnErr result (self.new.state ≡ self.old.state) }
         ensures disk { self.new.disk ≡ self.old.disk }

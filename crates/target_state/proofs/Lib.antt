@@ -6,3 +6,4 @@ pub mod Bounds
 pub mod Ids
 pub mod Cancelling
 pub mod Greatest
+pub mod Replying

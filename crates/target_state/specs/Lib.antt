@@ -4,3 +4,4 @@ pub mod Rules
 pub mod Commit
 pub mod Opening
 pub mod Marking
+pub mod Holding

@@ -3,7 +3,10 @@
 ghost use Rattle.std.specs.Prelude.{◌≡◌, ◌<◌, ◌≤◌, All, length, IfOk, OnOk, OnErr};
 ghost use Rattle.out_update.specs.Spelling.{FitsUpdate};
 ghost use Rattle.target_state.specs.Rules.{is_held_by, is_past, with_ended, held_taking, taken, after_hold, is_stripe, writer_told, results_told, facts, answer_as, let_go, after_release, release_answer};
+ghost use Rattle.out_update.specs.Replies.{FitsReply};
+ghost use Rattle.update_record.specs.Messages.{FitsWriter, FitsFacts};
 ghost use Rattle.target_state.specs.Image.{state_text};
+ghost use Rattle.target_state.specs.Holding.{FitsHold};
 
 use crate::answers::{HoldAnswer, ReleaseAnswer};
 use crate::state::State;
@@ -87,7 +90,8 @@ impl State {
 
     /// The last uncommitted writer of what is asked for.
     fn writer(&self, ask: &UpdateRequest) -> Option<(u32, Targets)>
-        ensures { result ≡ writer_told self.now ask.now }
+        ensures value { result ≡ writer_told self.now ask.now }
+        ensures fits { FitsWriter result }
     {
         let update = ask.get(0)?;
         match update.kind {
@@ -102,23 +106,29 @@ impl State {
     /// The result of the question.
     fn results(&self, ask: &UpdateRequest) -> Result<UpdateReply, Memory>
         requires { All FitsUpdate ask.now }
-        ensures { IfOk result (λ reply. reply ≡ results_told self.now ask.now) }
+        ensures value { IfOk result (λ reply. reply ≡ results_told self.now ask.now) }
+        ensures fits { IfOk result FitsReply }
     {
         let mut reply = UpdateReply::new(self.alloc);
-        if let Some(update) = ask.get(0) {
-            reply.push(self.objects.read(self.alloc, update)?)?;
+        match ask.get(0) {
+            None => Ok(reply),
+            Some(update) => {
+                let result = self.objects.read(self.alloc, update)?;
+                reply.push(result)?;
+                Ok(reply)
+            }
         }
-        Ok(reply)
     }
 
     /// What it tells.
     fn facts(&self, ask: &UpdateRequest) -> Result<Facts, Memory>
         requires { All FitsUpdate ask.now }
-        ensures { IfOk result (λ f. f ≡ facts self.now (length (state_text self.now)) ask.now) }
+        ensures value { IfOk result (λ f. f ≡ facts self.now (length (state_text self.now)) ask.now) }
+        ensures fits { IfOk result FitsFacts }
     {
         Ok(Facts {
             load: self.load(),
-            clock: self.front.clock,
+            clock: self.clock(),
             writer: self.writer(ask),
             reply: self.results(ask)?,
         })
@@ -129,6 +139,8 @@ impl State {
         requires master { by.master < 16 }
         requires ask { All FitsUpdate ask.now }
         ensures answer { IfOk result (λ a. a ≡ answer_as self.old (length (state_text self.old)) ask.now (taken self.old by)) }
+        // What is told has a spelling.
+        ensures spelled { IfOk result FitsHold }
         ensures state { OnOk result (self.new ≡ after_hold self.old by) }
         ensures err { OnErr result (self.new ≡ self.old) }
     {

@@ -1,0 +1,7 @@
+use Rattle.std.proofs.Common.{subst, sym}
+use Rattle.update_record.specs.Messages.{FitsMessage}
+use Rattle.cluster_mail.proofs.Sending.{cancel_fits}
+use Rattle.cluster_mail.proofs.answering.cancel_message.Goals as goal
+
+pub returns-clause-fits : goal.returns-clause-fits
+returns-clause-fits c = subst FitsMessage (sym c.batch_message.ensures) (cancel_fits c.args.epoch c.args.from c.args.to c.args.mark c.ranges.epoch.fits c.requires.from c.requires.to c.ranges.mark.fits)

@@ -1,0 +1,4 @@
+pub mod Mail
+pub mod Kept
+pub mod Content
+pub mod Answering

@@ -1,14 +1,20 @@
--- Answers, and what tells of batches, have a spelling.
+-- What is sent has a spelling.
 use Rattle.std.proofs.Common.{◌≡◌, ℕ, ◌+◌, ◌≤◌, ◌<◌, ◌^◌, Bool, true, false, ◌==◌, nat_le, ◌&&◌, ◌||◌, List, [], ◌++◌, length, refl, sym, ap, subst, ◌∙◌, arith, length-append, w32, w64}
 use Rattle.std.proofs.lemmas.Bool.{le-leb}
 use Rattle.byte_grammar.specs.Numbers.{word}
+use Rattle.out_update.specs.declared.update.Update.{Update}
 use Rattle.out_update.specs.Replies.{reply_text}
+use Rattle.out_update.specs.Spelling.{FitsRequest}
+use Rattle.update_record.specs.declared.message.Attempt.{Attempt}
 use Rattle.update_record.specs.declared.message.Facts.{Facts}
 use Rattle.update_record.specs.declared.message.Message.{Message}
 use Rattle.update_record.specs.declared.message.MessageKind.{MessageKind}
 use Rattle.update_record.specs.declared.message.MessageKind.TheVariants as kind
-use Rattle.update_record.specs.Messages.{or_zero, has_ask, is_sender, writer_number, writer_targets, facts_text, FitsFacts, FitsBody, FitsMessage}
+use Rattle.update_record.specs.declared.operation.Record.{Record}
+use Rattle.update_record.specs.Spelling.{FitsRecord}
+use Rattle.update_record.specs.Messages.{AsksOne, or_zero, has_ask, is_sender, writer_number, writer_targets, facts_text, FitsFacts, FitsBody, FitsMessage}
 use Rattle.cluster_mail.specs.Answering.{ComesAs, held_message, busy_message, synced_message, executed_message, released_message, stable_message, cancel_message}
+use Rattle.cluster_mail.specs.Asking.{hold_message, sync_message, execute_message, release_message}
 
 is_target : (n : ℕ) → n ≤ 15 → is_sender n ≡ true
 is_target n h = ap (λ (b : Bool). b || (nat_le 256 n && nat_le n 319)) (le-leb n 15 h)
@@ -168,6 +174,86 @@ cancel_fits epoch from to mark e t o b =
       ask = omega arith;
       ask_fits = refl;
       value = b;
+      value_fits = refl;
+      size = omega arith;
+      body = refl;
+    }
+
+-- ---- of an attempt's home
+
+pub hold_fits : (by : Attempt) (to ask : ℕ) (us : List Update) → by.epoch < 2 ^ 32 → by.attempt < 2 ^ 64 → by.number < 2 ^ 32 → by.master ≤ 15 → to ≤ 15 → ask < 2 ^ 32 → FitsRequest us → AsksOne us → FitsMessage (hold_message by to ask us)
+hold_fits by to ask us e p n t o a h q =
+    let small = h.size in
+    record {
+      epoch = e;
+      epoch_fits = refl;
+      sender = is_target by.master t;
+      receiver = o;
+      number = n;
+      number_fits = refl;
+      attempt = p;
+      attempt_fits = refl;
+      ask = a;
+      ask_fits = refl;
+      value = omega arith;
+      value_fits = refl;
+      size = omega arith;
+      body = (us, ((h, q), refl));
+    }
+
+pub sync_fits : (by : Attempt) (to ask writer : ℕ) → by.epoch < 2 ^ 32 → by.attempt < 2 ^ 64 → by.number < 2 ^ 32 → by.master ≤ 15 → to ≤ 15 → ask < 2 ^ 32 → writer < 2 ^ 32 → FitsMessage (sync_message by to ask writer)
+sync_fits by to ask writer e p n t o a w =
+    record {
+      epoch = e;
+      epoch_fits = refl;
+      sender = is_target by.master t;
+      receiver = o;
+      number = n;
+      number_fits = refl;
+      attempt = p;
+      attempt_fits = refl;
+      ask = a;
+      ask_fits = refl;
+      value = omega arith;
+      value_fits = refl;
+      size = omega arith;
+      body = refl;
+    }
+
+pub execute_fits : (by : Attempt) (to : ℕ) (r : Record) → by.epoch < 2 ^ 32 → by.attempt < 2 ^ 64 → by.number < 2 ^ 32 → by.master ≤ 15 → to ≤ 15 → FitsRecord r → FitsMessage (execute_message by to r)
+execute_fits by to r e p n t o h =
+    let small = h.size in
+    record {
+      epoch = e;
+      epoch_fits = refl;
+      sender = is_target by.master t;
+      receiver = o;
+      number = n;
+      number_fits = refl;
+      attempt = p;
+      attempt_fits = refl;
+      ask = omega arith;
+      ask_fits = refl;
+      value = omega arith;
+      value_fits = refl;
+      size = omega arith;
+      body = (r, (h, refl));
+    }
+
+pub release_fits : (by : Attempt) (to : ℕ) → by.epoch < 2 ^ 32 → by.attempt < 2 ^ 64 → by.number < 2 ^ 32 → by.master ≤ 15 → to ≤ 15 → FitsMessage (release_message by to)
+release_fits by to e p n t o =
+    record {
+      epoch = e;
+      epoch_fits = refl;
+      sender = is_target by.master t;
+      receiver = o;
+      number = n;
+      number_fits = refl;
+      attempt = p;
+      attempt_fits = refl;
+      ask = omega arith;
+      ask_fits = refl;
+      value = omega arith;
       value_fits = refl;
       size = omega arith;
       body = refl;

@@ -7,6 +7,7 @@
 #![tactic(auto)]
 
 mod answering;
+mod asking;
 mod content;
 mod mail;
 
@@ -14,5 +15,6 @@ pub use answering::{
     attempt_of, busy_message, cancel_message, executed_message, held_message, released_message,
     stable_message, synced_message,
 };
+pub use asking::{execute_message, hold_message, release_message, sync_message};
 pub use content::{Content, record_of};
 pub use mail::Mail;

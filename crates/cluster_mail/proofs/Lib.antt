@@ -1,3 +1,4 @@
 pub mod Marks
 pub mod Whole
 pub mod Sending
+pub mod OneThing

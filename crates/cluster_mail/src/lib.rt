@@ -9,6 +9,7 @@
 mod answering;
 mod asking;
 mod content;
+mod laws;
 mod mail;
 
 pub use answering::{
@@ -17,4 +18,5 @@ pub use answering::{
 };
 pub use asking::{execute_message, hold_message, release_message, sync_message};
 pub use content::{Content, record_of};
+pub use laws::a_message_says_one_thing;
 pub use mail::Mail;

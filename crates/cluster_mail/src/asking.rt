@@ -1,6 +1,6 @@
 //! The messages of an attempt's home.
 
-ghost use Rattle.std.specs.Prelude.{◌≡◌, ◌≤◌, [], IfOk};
+ghost use Rattle.std.specs.Prelude.{◌≡◌, ◌≤◌, ◌<◌, ◌^◌, [], IfOk};
 ghost use Rattle.out_update.specs.Spelling.{FitsRequest};
 ghost use Rattle.update_record.specs.Messages.{AsksOne, FitsMessage};
 ghost use Rattle.update_record.specs.Spelling.{FitsRecord};
@@ -13,7 +13,10 @@ use update_record::{Attempt, Message, MessageKind, Record};
 
 /// A message of an attempt's home.
 fn order_to(kind: MessageKind, by: Attempt, to: u8, ask: u32, value: u64, body: Bytes) -> Message
-    ensures { result ≡ order_to kind by to ask value body }
+    ensures value { result ≡ order_to kind by to ask value body }
+    ensures epoch { by.epoch < 2 ^ 32 }
+    ensures attempt { by.attempt < 2 ^ 64 }
+    ensures number { by.number < 2 ^ 32 }
 {
     Message {
         kind,

@@ -9,5 +9,5 @@ use Rattle.cluster_mail.proofs.asking.execute_message.Goals as goal
 pub returns-clause-fits : goal.returns-clause-fits
 returns-clause-fits c =
     let body = c.in_ok-encode.ensures.ok ∙ ap (λ (l : List ℕ). l ++ record_text c.args.entry.now) c.new-body.ensures in
-    let is = c.order_to.ensures ∙ ap (λ (b : List ℕ). order_to kind.Execute c.args.by c.args.to 0 0 b) body in
-    subst FitsMessage (sym is) (execute_fits c.args.by c.args.to c.args.entry.now c.ranges.by.epoch.fits c.ranges.by.attempt.fits c.ranges.by.number.fits c.requires.master c.requires.to c.requires.entry)
+    let is = c.order_to.ensures.value ∙ ap (λ (b : List ℕ). order_to kind.Execute c.args.by c.args.to 0 0 b) body in
+    subst FitsMessage (sym is) (execute_fits c.args.by c.args.to c.args.entry.now c.order_to.ensures.epoch c.order_to.ensures.attempt c.order_to.ensures.number c.requires.master c.requires.to c.requires.entry)

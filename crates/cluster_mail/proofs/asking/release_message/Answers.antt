@@ -7,5 +7,5 @@ use Rattle.cluster_mail.proofs.asking.release_message.Goals as goal
 
 pub returns-clause-fits : goal.returns-clause-fits
 returns-clause-fits c =
-    let is = c.order_to.ensures ∙ ap (λ (b : List ℕ). order_to kind.Release c.args.by c.args.to 0 0 b) c.new.ensures in
-    subst FitsMessage (sym is) (release_fits c.args.by c.args.to c.ranges.by.epoch.fits c.ranges.by.attempt.fits c.ranges.by.number.fits c.requires.master c.requires.to)
+    let is = c.order_to.ensures.value ∙ ap (λ (b : List ℕ). order_to kind.Release c.args.by c.args.to 0 0 b) c.new.ensures in
+    subst FitsMessage (sym is) (release_fits c.args.by c.args.to c.order_to.ensures.epoch c.order_to.ensures.attempt c.order_to.ensures.number c.requires.master c.requires.to)

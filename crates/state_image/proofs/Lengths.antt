@@ -45,7 +45,7 @@ pub count_most : (ss : List (Option Seat)) → taken_count ss ≤ length ss
 count_most [] = omega arith
 count_most (s ∷ ss) = let a = one_most s in let b = count_most ss in omega (arith, a, b)
 
-names_length : (f : Front) → length (names_text f) ≡ 24
+pub names_length : (f : Front) → length (names_text f) ≡ 24
 names_length f =
     let e = word w32 f.cluster ++ zeros 4 in
     let d = word w32 f.index ++ e in
@@ -59,7 +59,7 @@ names_length f =
     let z = length-zeros 4 in
     omega (arith, t1, t2, t3, t4, t5, z)
 
-numbers_length : (f : Front) → length (numbers_text f) ≡ 32
+pub numbers_length : (f : Front) → length (numbers_text f) ≡ 32
 numbers_length f =
     let c = word w64 f.next_batch ++ word w64 f.mark in
     let b = word w64 f.clock ++ c in

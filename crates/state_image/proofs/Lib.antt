@@ -10,3 +10,4 @@ mod StateAgain
 mod StateOnly
 mod StateLengths
 mod Staying
+mod Pieces

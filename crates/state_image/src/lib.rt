@@ -8,6 +8,7 @@
 
 mod fields;
 mod front;
+mod front_bytes;
 mod image;
 mod laws;
 mod moving;
@@ -17,6 +18,7 @@ mod spelling;
 mod whole;
 
 pub use front::Front;
+pub use front_bytes::FrontBytes;
 pub use image::Image;
 pub use laws::{
     a_log_stays_own_when_appended, a_log_stays_own_when_cancelled, a_log_stays_own_when_packed,

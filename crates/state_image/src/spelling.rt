@@ -1,48 +1,53 @@
 //! Writing a front.
 
-ghost use Rattle.std.specs.Prelude.{◌≡◌, ◌≤◌, ◌++◌, length, OnOk, OnErr};
+ghost use Rattle.std.specs.Prelude.{◌≡◌, ◌≤◌, ◌+◌, ◌++◌, length, OnOk, OnErr};
+ghost use Rattle.std.specs.Int.{w32};
+ghost use Rattle.byte_grammar.specs.Numbers.{word, zeros};
 ghost use Rattle.reply_cache.specs.declared.seats.Seat.{Seat};
-ghost use Rattle.state_image.specs.FrontText.{names_text, numbers_text, seat_text, maybe_seat, seats_from, taken_count, one_if, seats_text, front_text};
+ghost use Rattle.state_image.specs.FrontText.{names_text, numbers_text, seat_text, maybe_seat, seats_from, taken_count, one_if, front_text};
 
 use crate::front::Front;
-use byte_grammar::{put_zeros, put32, put64};
+use crate::front_bytes::FrontBytes;
 use fid_space::Bytes;
-use reply_cache::{Seat, Seats};
+use reply_cache::Seat;
 use std::alloc::AllocError as Memory;
 use update_record::code_of_answer;
 
-/// Adds a seat.
-#[tactic(auto, unfolding(crate::specs::FrontText::seat_text))]
-fn put_seat(out: &mut Vec<u8>, client: u32, seat: Seat) -> Result<(), Memory>
-    ensures { OnOk result (out.new.items ≡ out.old.items ++ seat_text client seat) }
+/// A seat.
+#[tactic(auto, unfolding(byte_grammar::specs::Numbers::word, byte_grammar::specs::Numbers::zeros, crate::specs::FrontText::seat_text))]
+fn seat_bytes(client: u32, seat: Seat) -> [u8; 16]
+    ensures { result ≡ seat_text client seat }
 {
-    put32(out, client)?;
-    put32(out, seat.number)?;
-    put32(out, code_of_answer(&seat.answer()))?;
-    put_zeros(out, 4)
+    let mut bytes = [0; 16];
+    bytes[..4].copy_from_slice(&client.to_le_bytes());
+    bytes[4..8].copy_from_slice(&seat.number.to_le_bytes());
+    bytes[8..12].copy_from_slice(&code_of_answer(&seat.answer()).to_le_bytes());
+    bytes
 }
 
 /// Adds a client's seat, where it has one.
-fn put_maybe(out: &mut Vec<u8>, client: u32, seat: Option<Seat>) -> Result<(), Memory>
-    ensures { OnOk result (out.new.items ≡ out.old.items ++ maybe_seat client seat) }
+fn push_seat(out: &mut FrontBytes, client: u32, seat: Option<Seat>)
+    requires { length out.old + 16 ≤ 1088 }
+    ensures value { out.new ≡ out.old ++ maybe_seat client seat }
+    ensures size { length out.new ≤ length out.old + 16 }
 {
     match seat {
-        None => Ok(()),
-        Some(seat) => put_seat(out, client, seat),
+        None => {}
+        Some(seat) => out.push(&seat_bytes(client, seat)),
     }
 }
 
 /// Adds the seats that are taken, by their clients.
-fn put_taken(out: &mut Vec<u8>, seats: &[Option<Seat>]) -> Result<(), Memory>
-    requires { length seats.now ≤ 64 }
-    ensures { OnOk result (out.new.items ≡ out.old.items ++ seats_from 0 seats.now) }
+fn push_taken(out: &mut FrontBytes, seats: &[Option<Seat>])
+    requires few { length seats.now ≤ 64 }
+    requires room { length out.old ≤ 64 }
+    ensures { out.new ≡ out.old ++ seats_from 0 seats.now }
 {
     let mut client = 0;
     for seat in seats {
-        put_maybe(out, client, *seat)?;
+        push_seat(out, client, *seat);
         client += 1;
     }
-    Ok(())
 }
 
 /// 1 for a seat that is taken.
@@ -69,48 +74,36 @@ fn count_taken(seats: &[Option<Seat>]) -> u32
     count
 }
 
-/// Adds the count of seats and the seats.
-#[tactic(auto, unfolding(crate::specs::FrontText::seats_text))]
-fn put_seats(out: &mut Vec<u8>, seats: &Seats) -> Result<(), Memory>
-    ensures { OnOk result (out.new.items ≡ out.old.items ++ seats_text seats.now) }
-{
-    let items = seats.items();
-    put32(out, count_taken(items))?;
-    put_zeros(out, 4)?;
-    put_taken(out, items)
-}
-
 impl Front {
-    /// Adds magic, format, the epoch, and which target it is.
-    fn put_names(&self, out: &mut Vec<u8>) -> Result<(), Memory>
-        ensures { OnOk result (out.new.items ≡ out.old.items ++ names_text self.now) }
+    /// What stands before the seats: magic, format, the epoch, which target it is, the numbers, and how many
+    /// seats follow.
+    #[tactic(auto, unfolding(byte_grammar::specs::Numbers::word, byte_grammar::specs::Numbers::zeros))]
+    fn head(&self) -> [u8; 64]
+        ensures { result ≡ names_text self.now ++ (numbers_text self.now ++ (word w32 (taken_count self.now.seats) ++ zeros 4)) }
     {
-        put32(out, 0x444e_4531)?;
-        put32(out, 1)?;
-        put32(out, self.epoch)?;
-        put32(out, u32::from(self.index))?;
-        put32(out, u32::from(self.cluster.targets()))?;
-        put_zeros(out, 4)
+        let mut head = [0; 64];
+        head[..4].copy_from_slice(&0x444e_4531_u32.to_le_bytes());
+        head[4..8].copy_from_slice(&1_u32.to_le_bytes());
+        head[8..12].copy_from_slice(&self.epoch.to_le_bytes());
+        head[12..16].copy_from_slice(&u32::from(self.index).to_le_bytes());
+        head[16..20].copy_from_slice(&u32::from(self.cluster.targets()).to_le_bytes());
+        head[24..32].copy_from_slice(&self.transno.to_le_bytes());
+        head[32..40].copy_from_slice(&self.clock.to_le_bytes());
+        head[40..48].copy_from_slice(&self.next_batch.to_le_bytes());
+        head[48..56].copy_from_slice(&self.mark.to_le_bytes());
+        head[56..60].copy_from_slice(&count_taken(self.seats.items()).to_le_bytes());
+        head
     }
 
-    /// Adds the numbers.
-    fn put_numbers(&self, out: &mut Vec<u8>) -> Result<(), Memory>
-        ensures { OnOk result (out.new.items ≡ out.old.items ++ numbers_text self.now) }
+    /// Its bytes. It takes no memory.
+    #[tactic(auto, using(crate::proofs::Pieces::head_joined, crate::proofs::Pieces::head_length))]
+    pub fn bytes(&self) -> FrontBytes
+        ensures { result ≡ front_text self.now }
     {
-        put64(out, self.transno)?;
-        put64(out, self.clock)?;
-        put64(out, self.next_batch)?;
-        put64(out, self.mark)
-    }
-
-    /// Adds the front.
-    #[tactic(auto, unfolding(crate::specs::FrontText::front_text))]
-    fn put(&self, out: &mut Vec<u8>) -> Result<(), Memory>
-        ensures { OnOk result (out.new.items ≡ out.old.items ++ front_text self.now) }
-    {
-        self.put_names(out)?;
-        self.put_numbers(out)?;
-        put_seats(out, &self.seats)
+        let mut bytes = FrontBytes::new();
+        bytes.push(&self.head());
+        push_taken(&mut bytes, self.seats.items());
+        bytes
     }
 
     /// Adds the front at the end, at most 1,088 bytes. Want of memory adds nothing.
@@ -118,9 +111,7 @@ impl Front {
         ensures ok { OnOk result (out.new ≡ out.old ++ front_text self.now) }
         ensures err { OnErr result (out.new ≡ out.old) }
     {
-        let mut front = Vec::new(out.alloc());
-        self.put(&mut front)?;
-        out.append(&front)
+        out.append(self.bytes().bytes())
     }
 
     /// How many bytes the front has: 64, and 16 for each seat that is taken.

@@ -39,6 +39,12 @@ CommitCauses before now (Ok x) = ⊤
 CommitCauses before now (Err fault.Disk) = Rose before now
 CommitCauses before now (Err fault.Memory) = now ≡ before
 
+-- a call of the disk alone fails
+abbrev pub DiskCauses : {T : Type 0} → ℕ → ℕ → Result T NodeFault → Type 0
+DiskCauses before now (Ok x) = ⊤
+DiskCauses before now (Err fault.Disk) = Rose before now
+DiskCauses before now (Err fault.Memory) = ⊥
+
 -- want of memory changes nothing
 abbrev pub LeavesAll : {T V : Type 0} → V → V → Result T NodeFault → Type 0
 LeavesAll old new (Err fault.Memory) = new ≡ old

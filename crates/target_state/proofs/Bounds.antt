@@ -70,6 +70,23 @@ first_bounded index seats m log free is begun =
     let f = none_taken in
     omega (arith, a, b, c, d, e, f)
 
+-- when the log is emptied
+
+header_least : (log : Log) → 32768 ≤ length (log_text log)
+unfolding log_text
+header_least log =
+    let bits = bitmap (is_live log.entries) in
+    let a = length-append (header_text log.next (live_count log.entries) bits) (records_text 32768 log.entries) in
+    let b = length-header log.next (live_count log.entries) bits (length-bitmap (is_live log.entries)) in
+    omega (arith, a, b)
+
+pub cleared_bounded : (seats : List (Option Seat)) (m : ObjectMap) (old new : Log) → new ≡ empty_log → IsBounded seats m old → IsBounded seats m new
+cleared_bounded seats m old new is before =
+    let a = ap (λ (l : Log). length (log_text l)) is in
+    let b = first_log in
+    let c = header_least old in
+    omega (arith, a, b, c, before)
+
 -- as it was read
 
 pub read_bounded : (i : Image) (bytes : List ℕ) → bytes ≡ spelled.state_text i → length bytes ≤ most_image → IsBounded i.front.seats i.objects i.log

@@ -12,6 +12,7 @@ use Rattle.out_update.specs.declared.result.UpdateResult.{UpdateResult}
 use Rattle.reply_cache.specs.declared.seats.Seat.{Seat}
 use Rattle.reply_cache.specs.Seats.{put_seat}
 use Rattle.commit_sharing.specs.Pending as pending
+use Rattle.llog_store.specs.Log.{empty_log}
 use Rattle.llog_store.specs.Changes.{appended}
 use Rattle.object_store.specs.Meaning.{after_all}
 use Rattle.object_store.specs.Reads.{reads}
@@ -28,6 +29,7 @@ use Rattle.target_state.specs.declared.holding.Taking.{Taking}
 use Rattle.target_state.specs.declared.holding.Taking.TheVariants.{Comes, Stays, TakesOver, Busy, Ended}
 use Rattle.target_state.specs.State.{TargetState, none_ended}
 use Rattle.target_state.specs.Image.{state_text}
+use Rattle.target_state.specs.Commit.{settled}
 
 -- ---- who holds
 
@@ -165,7 +167,11 @@ after_release s by =
 abbrev pub forgotten : TargetState → TargetState
 forgotten s = record s { holder = None; ended = none_ended }
 
--- ---- what is redone
+-- ---- a recovery
+
+-- It ends: the log is empty, and with the epoch holds, notes, batches and marks begin anew.
+abbrev pub renewed : ℕ → TargetState → TargetState
+renewed epoch s = record (settled (forgotten s)) { epoch = epoch; next_batch = 1; mark = 0; log = empty_log }
 
 -- the greatest load at which a record is redone, and the greatest index that its log gives next
 abbrev pub most_redo_load : ℕ

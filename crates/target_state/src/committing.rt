@@ -3,12 +3,14 @@
 ghost use Rattle.std.specs.Prelude.{◌≡◌, ◌≤◌, ◌++◌, length, IfOk, OnOk, OnErr, None};
 ghost use Rattle.state_image.specs.FrontText.{front_text};
 ghost use Rattle.target_state.specs.Image.{front_of, state_text, most_image};
+ghost use Rattle.target_state.specs.Rules.{renewed};
 ghost use Rattle.target_state.specs.Commit.{numbers_of, later, greatest_from, mark_of, other_mark, marks_from, listed, is_empty, packed, settled};
 
 use crate::state::State;
 use crate::waiting::{Committed, Marks, Waiting};
-use fid_space::{Bytes, Numbers};
+use fid_space::Numbers;
 use llog_store::lengths_of_logs;
+use state_image::FrontBytes;
 use std::alloc::{AllocError as Memory, Global};
 
 /// The numbers of records.
@@ -99,7 +101,7 @@ impl State {
 
     /// All that takes memory for a commit: the log is thinned, and the front of the image and what the commit
     /// makes stable are given. Want of memory changes nothing.
-    pub fn ready(&mut self) -> Result<(Bytes, Committed), Memory>
+    pub fn ready(&mut self) -> Result<(FrontBytes, Committed), Memory>
         ensures state { OnOk result (self.new ≡ packed self.old) }
         ensures front { IfOk result (λ r. r.0 ≡ front_text (front_of self.old)) }
         ensures listed { IfOk result (λ r. r.1 ≡ listed self.old.index self.old.waiting) }
@@ -107,11 +109,9 @@ impl State {
         ensures err { OnErr result (self.new ≡ self.old) }
     {
         let listed = self.listed()?;
-        let mut front = Bytes::new(self.alloc);
-        self.front.encode(&mut front)?;
         self.thin()?;
         self.fits_a_disk();
-        Ok((front, listed))
+        Ok((self.front.bytes(), listed))
     }
 
     /// Whether nothing waits to be committed.
@@ -119,6 +119,20 @@ impl State {
         ensures { result ≡ is_empty self.now.waiting }
     {
         self.waiting.items().is_empty()
+    }
+
+    /// Ends a recovery: the log is emptied and the epoch set, and with it holds, notes, batches and marks begin
+    /// anew. It takes no memory.
+    #[tactic(auto, using(crate::proofs::Bounds::cleared_bounded))]
+    pub fn renew(&mut self, epoch: u32)
+        ensures { self.new ≡ renewed epoch self.old }
+    {
+        self.front.epoch = epoch;
+        self.front.next_batch = 1;
+        self.front.mark = 0;
+        self.log.clear();
+        self.settle();
+        self.enter_recovery();
     }
 
     /// Nothing waits any more. It takes no memory.

@@ -6,11 +6,13 @@ ghost use Rattle.byte_grammar.specs.Numbers.{word, zeros};
 ghost use Rattle.llog_store.specs.Log.{log_text};
 ghost use Rattle.llog_store.specs.Chunked.{chunk_at, chunk_count};
 ghost use Rattle.state_image.specs.StateText.{log_part};
-ghost use Rattle.target_state.specs.Image.{state_text, most_image};
+ghost use Rattle.state_image.specs.FrontText.{front_text};
+ghost use Rattle.target_state.specs.Image.{front_of, state_text, most_image};
 
 use crate::state::{State, log_length};
 use fid_space::Bytes;
 use llog_store::Llog;
+use state_image::FrontBytes;
 use std::alloc::AllocError as Memory;
 
 /// What stands before the bytes of a log of such a length: the length, and zeros.
@@ -50,6 +52,13 @@ impl State {
         ensures { result ≡ word w32 (length (log_text self.now.log)) ++ zeros 4 }
     {
         head(log_length(&self.log) as u32)
+    }
+
+    /// What stands before the objects in the image. It takes no memory.
+    pub fn front_bytes(&self) -> FrontBytes
+        ensures { result ≡ front_text (front_of self.now) }
+    {
+        self.front.bytes()
     }
 
     /// The image as a whole, for a disk that is formatted.

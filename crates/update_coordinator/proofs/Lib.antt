@@ -1,0 +1,12 @@
+pub mod Writing
+pub mod Stepping
+pub mod Recorded
+pub mod Spelled
+pub mod Joining
+pub mod Due
+pub mod Accepting
+pub mod Rising
+pub mod Staying
+pub mod Ending
+pub mod Hearing
+pub mod Asking

@@ -17,6 +17,8 @@ use update_record::Facts;
 #[derive(Clone, Copy)]
 enum Say {
     Tells(u8, bool, u32, u8),
+    /// From a target with this clock, these bytes.
+    Bytes(u8, &'static [u8]),
     Busy(u32),
     Down(u8),
     Synced,
@@ -84,6 +86,22 @@ fn told(
     }))
 }
 
+/// What a target tells that has this load: these bytes, which no request wrote last.
+fn shown(alloc: Global, load: u64, clock: u8, found: &[u8]) -> Result<Event, Fail>
+    ensures { IfOk result MayHear }
+{
+    let mut body = Bytes::new(alloc);
+    body.append(found)?;
+    let mut reply = UpdateReply::new(alloc);
+    reply.push(UpdateResult { code: 0, body })?;
+    Ok(Event::Fact(Facts {
+        load,
+        clock: u64::from(clock),
+        writer: None,
+        reply,
+    }))
+}
+
 fn event_of(alloc: Global, say: Say, load: u64, attempt: u64) -> Result<Event, Fail>
     ensures { IfOk result MayHear }
 {
@@ -96,6 +114,7 @@ fn event_of(alloc: Global, say: Say, load: u64, attempt: u64) -> Result<Event, F
             };
             told(alloc, load, clock, found, writer)
         }
+        Say::Bytes(clock, found) => shown(alloc, load, clock, found),
         Say::Busy(number) => Ok(Event::Busy(number)),
         Say::Down(target) if target < 16 => Ok(Event::Down(target)),
         Say::Executed(target) if target < 16 => Ok(Event::Executed(target, attempt)),
@@ -209,6 +228,25 @@ fn holds_a_participant_that_was_asked_nothing(rt: HostRuntime) -> Result<(), Fai
         (Say::Tells(8, false, 0, 0), ("accept", 10, 3)),
     ];
     assert!(rt; acts(rt.alloc(), STRIPED, 0, &says)?);
+    Ok(())
+}
+
+/// The FID [0x200100400:0x1:0x0].
+const CHILD: [u8; 16] = [0, 4, 16, 0, 2, 0, 0, 0, 1, 0, 0, 0, 0, 0, 0, 0];
+
+/// A count of no entries.
+const NONE: [u8; 4] = [0; 4];
+
+#[test]
+fn looks_twice_at_another_target(rt: HostRuntime) -> Result<(), Fail> {
+    // The name stands for a directory of the target 1, which has no entry.
+    let says = [
+        PARENT,
+        (Say::Bytes(5, &CHILD), ("ask", 1, 0)),
+        (Say::Tells(9, true, 0, 0), ("ask", 1, 0)),
+        (Say::Bytes(9, &NONE), ("accept", 10, 2)),
+    ];
+    assert!(rt; acts(rt.alloc(), "rmdir [0x200000007:0x1:0x0] d", 0, &says)?);
     Ok(())
 }
 

@@ -4,7 +4,6 @@ use chain_blocks::{Blocks, ChainFault, ChainWriteFault, Full};
 use fid_space::Bytes;
 use outside::MemoryDisk;
 use std::alloc::Global;
-use std::test::Fail;
 
 const END: u32 = 0xffff_ffff;
 
@@ -27,17 +26,22 @@ fn taken_again(alloc: Global) -> Option<[Result<u32, Full>; 5]> {
 #[test]
 fn taken_and_given(rt: HostRuntime) {
     let want = [Ok(0), Ok(1), Ok(0), Ok(2), Err(Full)];
-    assert_eq!(rt; taken_again(rt.alloc()), Some(want));
+    assert!(rt; taken_again(rt.alloc()) == Some(want));
+}
+
+/// The first free block of two unused ones, and the links of both and of one that isn't there.
+fn first_links(alloc: Global) -> Option<(u32, [Option<u32>; 3])> {
+    let Ok(blocks) = Blocks::new(alloc, 2) else {
+        return None;
+    };
+    let links = [blocks.link(0), blocks.link(1), blocks.link(2)];
+    Some((blocks.free(), links))
 }
 
 #[test]
-fn first_links(rt: HostRuntime) -> Result<(), Fail> {
-    let blocks = Blocks::new(rt.alloc(), 2)?;
-    assert_eq!(rt; blocks.free(), 0);
-    assert_eq!(rt; blocks.link(0), Some(1));
-    assert_eq!(rt; blocks.link(1), Some(END));
-    assert_eq!(rt; blocks.link(2), None);
-    Ok(())
+fn linked_at_first(rt: HostRuntime) {
+    let want = (0, [Some(1), Some(END), None]);
+    assert!(rt; first_links(rt.alloc()) == Some(want));
 }
 
 #[test]
@@ -49,7 +53,7 @@ fn faults_of_links(rt: HostRuntime) {
         ([END, END, END], [0].as_slice(), 1, ChainFault::Lost(2)),
     ] {
         let answer = Blocks::from_links(rt.alloc(), &links, heads, free);
-        assert_eq!(rt; answer.err(), Some(want));
+        assert!(rt; answer.err() == Some(want), "{want:?}");
     }
 }
 
@@ -92,10 +96,14 @@ fn written_and_read(rt: HostRuntime) {
     let Some((head, out)) = read_back(rt.alloc(), &[7; 8193]) else {
         panic!(rt; "it wasn't written");
     };
-    assert_eq!(rt; (head, out.len()), (0, 12288));
-    assert_eq!(rt; (out.get(8192), out.get(8193)), (Some(7), Some(0)));
+    let got = (head, out.len(), out.get(8192), out.get(8193));
+    assert!(rt; got == (0, 12288, Some(7), Some(0)));
+}
+
+#[test]
+fn writes_that_fail(rt: HostRuntime) {
     let full = refused(rt.alloc(), &[7; 4097]);
-    assert_eq!(rt; full, Some((Err(ChainWriteFault::Full(2)), 0)));
+    assert!(rt; full == Some((Err(ChainWriteFault::Full(2)), 0)));
     let failed = refused(rt.alloc(), &[7; 4096]);
-    assert_eq!(rt; failed, Some((Err(ChainWriteFault::Disk), 0)));
+    assert!(rt; failed == Some((Err(ChainWriteFault::Disk), 0)));
 }

@@ -4,7 +4,6 @@ use crate::fixtures::image_of;
 use fid_space::Bytes;
 use outside::{Disk, MemoryDisk, Plant, SureDisk};
 use std::alloc::Global;
-use std::test::Fail;
 use target_disk::{CommitFault, FormatFault, OpenStoreFault, Store};
 
 /// An image of nine blocks.
@@ -95,54 +94,53 @@ fn first_wrong(alloc: Global, choice: u8, in_pieces: bool) -> Option<u32> {
 
 #[test]
 fn before_or_after_all_or_none_kept(rt: HostRuntime) {
-    assert_eq!(rt; first_wrong(rt.alloc(), 0, false), None);
-    assert_eq!(rt; first_wrong(rt.alloc(), 255, false), None);
+    assert!(rt; first_wrong(rt.alloc(), 0, false) == None);
+    assert!(rt; first_wrong(rt.alloc(), 255, false) == None);
 }
 
 #[test]
 fn before_or_after_half_kept(rt: HostRuntime) {
-    assert_eq!(rt; first_wrong(rt.alloc(), 85, false), None);
-    assert_eq!(rt; first_wrong(rt.alloc(), 170, false), None);
+    assert!(rt; first_wrong(rt.alloc(), 85, false) == None);
+    assert!(rt; first_wrong(rt.alloc(), 170, false) == None);
 }
 
 #[test]
 fn before_or_after_in_pieces(rt: HostRuntime) {
-    assert_eq!(rt; first_wrong(rt.alloc(), 0, true), None);
-    assert_eq!(rt; first_wrong(rt.alloc(), 255, true), None);
+    assert!(rt; first_wrong(rt.alloc(), 0, true) == None);
+    assert!(rt; first_wrong(rt.alloc(), 255, true) == None);
 }
 
-/// An image in pieces, after one that was begun and given up.
+/// Commits these bytes behind `abc`, after an image that was begun and given up.
+fn put_behind(store: &mut Store<SureDisk>, rest: &[u8]) -> Result<(), CommitFault> {
+    store.begin();
+    store.put(b"given up")?;
+    store.begin();
+    store.put(b"abc")?;
+    store.put(rest)?;
+    store.finish()
+}
+
+/// The image that then stands on the disk.
 fn in_pieces(alloc: Global) -> Option<Bytes> {
-    let Ok(rest) = image_of(alloc, 9000, 7) else {
-        return None;
-    };
+    let rest = image_of(alloc, 9000, 7).ok()?;
     let disk = SureDisk::new(alloc).ok()?;
     let mut store = Store::format(alloc, disk, b"one").ok()?;
-    store.begin();
-    let Ok(()) = store.put(b"given up") else {
-        return None;
-    };
-    store.begin();
-    let Ok(()) = store.put(b"abc") else {
-        return None;
-    };
-    let Ok(()) = store.put(&rest) else {
-        return None;
-    };
-    store.finish().ok()?;
+    put_behind(&mut store, &rest).ok()?;
     let (_, image) = Store::open(alloc, store.into_disk()).ok()?;
     Some(image)
 }
 
+/// Its length, and its bytes at three places.
+fn joined(alloc: Global) -> Option<(usize, [Option<u8>; 3])> {
+    let image = in_pieces(alloc)?;
+    let bytes = [image.get(2), image.get(3), image.get(9002)];
+    Some((image.len(), bytes))
+}
+
 #[test]
 fn pieces_are_joined(rt: HostRuntime) {
-    let Some(image) = in_pieces(rt.alloc()) else {
-        panic!(rt; "it wasn't committed");
-    };
-    assert_eq!(rt; image.len(), 9003);
-    assert_eq!(rt; image.get(2), Some(b'c'));
-    assert_eq!(rt; image.get(3), Some(7));
-    assert_eq!(rt; image.get(9002), Some(7));
+    let want = (9003, [Some(b'c'), Some(7), Some(7)]);
+    assert!(rt; joined(rt.alloc()) == Some(want));
 }
 
 /// What a commit of one byte too many answers behind one of as many bytes as a store takes, and how many
@@ -162,25 +160,37 @@ fn overfilled(alloc: Global) -> Option<(Result<(), CommitFault>, usize)> {
 #[test]
 fn takes_a_whole_store(rt: HostRuntime) {
     let full = Err(CommitFault::Full(32_768_001));
-    assert_eq!(rt; overfilled(rt.alloc()), Some((full, MOST)));
+    assert!(rt; overfilled(rt.alloc()) == Some((full, MOST)));
+}
+
+/// The bits of the open gates of a disk of zeros, and of one whose first byte is 1 behind that.
+fn gates_of_zeros(alloc: Global) -> Option<(u8, u8)> {
+    let disk = MemoryDisk::new(alloc, &[]).ok()?;
+    let Err(OpenStoreFault::Damaged(mut disk, shut)) = Store::open(alloc, disk) else {
+        return None;
+    };
+    disk.write_at(0, &[1]).ok()?;
+    let Err(OpenStoreFault::Damaged(_, open)) = Store::open(alloc, disk) else {
+        return None;
+    };
+    Some((shut, open))
 }
 
 #[test]
-fn faults_give_the_disk_back(rt: HostRuntime) -> Result<(), Fail> {
-    let disk = MemoryDisk::new(rt.alloc(), &[])?;
-    let Err(OpenStoreFault::Damaged(mut disk, gates)) = Store::open(rt.alloc(), disk) else {
-        panic!(rt; "a disk of zeros was opened");
-    };
-    assert_eq!(rt; gates, 0);
-    assert_eq!(rt; disk.write_at(0, &[1]), Ok(()));
-    let Err(OpenStoreFault::Damaged(_, gates)) = Store::open(rt.alloc(), disk) else {
-        panic!(rt; "a journal of zeros was opened");
-    };
-    assert_eq!(rt; gates, 1);
-    let disk = MemoryDisk::new(rt.alloc(), &[3])?;
-    let Err(FormatFault::Disk(disk)) = Store::format(rt.alloc(), disk, b"one") else {
-        panic!(rt; "a disk that failed was formatted");
-    };
-    assert_eq!(rt; disk.faults(), 1);
-    Ok(())
+fn a_disk_of_zeros_is_damaged(rt: HostRuntime) {
+    assert!(rt; gates_of_zeros(rt.alloc()) == Some((0, 1)));
+}
+
+/// How many calls failed of a disk that fails while it is formatted, which gives it back.
+fn faults_of_formatting(alloc: Global) -> Option<u64> {
+    let disk = MemoryDisk::new(alloc, &[3]).ok()?;
+    match Store::format(alloc, disk, b"one") {
+        Err(FormatFault::Disk(disk)) => Some(disk.faults()),
+        _ => None,
+    }
+}
+
+#[test]
+fn a_fault_gives_the_disk_back(rt: HostRuntime) {
+    assert!(rt; faults_of_formatting(rt.alloc()) == Some(1));
 }

@@ -5,24 +5,21 @@
 //! is the transcript of a run of one plain tree over exactly the lines that it read.
 #![tactic(auto)]
 
-ghost use Rattle.std.specs.Prelude.{◌≡◌, vec_len, IfOk};
+ghost use Rattle.std.specs.Prelude.{◌≡◌, vec_len, IfNone, IfOk};
 
 mod image;
 mod ledger;
 mod modes;
 mod session;
-mod store;
 mod target;
-#[cfg(test)]
-mod tests;
 mod top;
 mod turns;
 
+use disk_files::open_disks;
 use outside::{MemoryDisk, Plant, StreamSink, StreamSource};
 use std::alloc::{AllocError as Memory, Global};
 use std::env;
 use std::process::ExitCode;
-use store::{open_disks, take_store};
 pub use top::dne_main;
 
 /// The words after the program's name. Words that can't be had, as one that isn't UTF-8, are none.
@@ -34,6 +31,18 @@ fn words_of(rt: &HostRuntime) -> Result<Vec<String>, Memory> {
         }
     }
     Ok(words)
+}
+
+/// Takes a leading `--store DIR` off the words, and gives DIR.
+fn take_store(words: &mut Vec<String>) -> Option<String>
+    ensures none { IfNone result (words.new.items ≡ words.old.items) }
+{
+    if words.len() >= 2 && words[0].as_str() == "--store" {
+        let folder = words.remove(1);
+        let _ = words.remove(0);
+        return Some(folder);
+    }
+    None
 }
 
 /// Sixteen disks in memory.

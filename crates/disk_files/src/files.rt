@@ -1,4 +1,4 @@
-ghost use Rattle.std.specs.Prelude.{◌≡◌, vec_len, IfNone, IfOk};
+ghost use Rattle.std.specs.Prelude.{◌≡◌, vec_len, IfOk};
 
 use outside::FileDisk;
 use std::fs::{self, File};
@@ -8,20 +8,9 @@ use std::rt::Files;
 /// How many bytes the file of a disk has.
 const DISK_LEN: u64 = 67_108_864;
 
-/// Takes a leading `--store DIR` off the words, and gives DIR.
-pub fn take_store(words: &mut Vec<String>) -> Option<String>
-    ensures none { IfNone result (words.new.items ≡ words.old.items) }
-{
-    if words.len() >= 2 && words[0].as_str() == "--store" {
-        let folder = words.remove(1);
-        let _ = words.remove(0);
-        return Some(folder);
-    }
-    None
-}
-
-/// Opens the sixteen disks `disk0` to `disk15` of a folder. A file that is missing is made, with zeros; one
-/// that is there keeps its bytes.
+/// Opens the sixteen disks `disk0` to `disk15` of a folder that is there. A file that is missing is made, with
+/// 67,108,864 zeros; one that is there keeps its bytes. Where a file can't be opened or made, the files that were
+/// made before it stay.
 pub fn open_disks(rt: &HostRuntime, folder: &str) -> io::Result<Vec<FileDisk>>
     ensures { IfOk result (λ disks. vec_len disks ≡ 16) }
 {

@@ -54,3 +54,8 @@ LeavesAll old new _ = ⊤
 abbrev pub FailsToFormat : {D : Type 0} → (D → Shown) → D → NodeDown D → Type 0
 FailsToFormat shown old (down.Disk disk) = Stays (shown old) (shown disk) × ((shown old).faults ≤ (shown disk).faults) × Rose (shown old).faults (shown disk).faults × (IsTrue (shown old).honest → (shown disk).failed ≡ true)
 FailsToFormat shown old (down.Memory disk) = disk ≡ old
+
+-- unless memory was missing, and nothing was done
+abbrev pub UnlessMemory : {T : Type 0} → Type 0 → Result T NodeFault → Type 0
+UnlessMemory is (Err fault.Memory) = ⊤
+UnlessMemory is _ = is

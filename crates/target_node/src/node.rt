@@ -5,11 +5,12 @@ ghost use Rattle.target_disk.specs.Store.{following};
 ghost use Rattle.out_update.specs.Spelling.{FitsUpdate};
 ghost use Rattle.update_record.specs.Spelling.{FitsRecord};
 ghost use Rattle.target_state.specs.State.{TargetState, first_state};
-ghost use Rattle.target_state.specs.Image.{state_text, most_load};
+ghost use Rattle.state_image.specs.StateText.{FitsState};
+ghost use Rattle.target_state.specs.Image.{state_text, image_of, most_load, IsInRange};
 ghost use Rattle.target_state.specs.Commit.{is_empty, packed, committed, listed};
 ghost use Rattle.target_state.specs.Rules.{is_held_by, taken, after_hold, answer_as, after_execute, after_release, release_answer};
 ghost use Rattle.target_state.specs.Holding.{FitsHold};
-ghost use Rattle.target_node.specs.Node.{StandsAs, IsSettledAs, OpensAsEither, CommitCauses, LeavesAll, FailsToFormat};
+ghost use Rattle.target_node.specs.Node.{StandsAs, IsSettledAs, OpensAsEither, CommitCauses, LeavesAll, UnlessMemory, FailsToFormat};
 
 use crate::fault::{NodeDown, NodeFault};
 use crate::putting::put_image;
@@ -130,6 +131,8 @@ impl<D: Disk> Node<D> {
         ensures memory { LeavesAll self.old self.new result }
         ensures state { OnOk result (self.new.state ≡ committed self.old.state) }
         ensures listed { IfOk result (λ c. c ≡ listed self.old.state.index self.old.state.waiting) }
+        // What is put has an image that is read back, where the state is in range.
+        ensures fits { UnlessMemory (IsInRange self.old.state → FitsState (image_of (packed self.old.state))) result }
         ensures any_moment { (s : TargetState) (g : ℕ) → StandsAs (D.shown self.old.disk) g s → OpensAsEither (D.shown self.new.disk) g s (packed self.old.state) }
         ensures done { (s : TargetState) (g : ℕ) → StandsAs (D.shown self.old.disk) g s → OnOk result (IsSettledAs (D.shown self.new.disk) (following g) (packed self.old.state)) }
     {
@@ -153,6 +156,8 @@ impl<D: Disk> Node<D> {
         ensures none { self.old.state.waiting ≡ [] → (result ≡ Ok None) × (self.new ≡ self.old) }
         ensures some { is_empty self.old.state.waiting ≡ false → IfOk result (λ o. o ≡ Some (listed self.old.state.index self.old.state.waiting)) }
         ensures state { is_empty self.old.state.waiting ≡ false → OnOk result (self.new.state ≡ committed self.old.state) }
+        // What is put has an image that is read back, where the state is in range.
+        ensures fits { is_empty self.old.state.waiting ≡ false → UnlessMemory (IsInRange self.old.state → FitsState (image_of (packed self.old.state))) result }
         ensures any_moment { (s : TargetState) (g : ℕ) → StandsAs (D.shown self.old.disk) g s → OpensAsEither (D.shown self.new.disk) g s (packed self.old.state) }
         ensures done { (s : TargetState) (g : ℕ) → is_empty self.old.state.waiting ≡ false → StandsAs (D.shown self.old.disk) g s → OnOk result (IsSettledAs (D.shown self.new.disk) (following g) (packed self.old.state)) }
     {

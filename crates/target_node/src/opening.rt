@@ -3,6 +3,7 @@
 ghost use Rattle.std.specs.Prelude.{IfOk, IfErr};
 ghost use Rattle.outside.specs.Disk.{Shown};
 ghost use Rattle.target_disk.specs.Open.{StaysSettled};
+ghost use Rattle.target_state.specs.Image.{IsInRange};
 ghost use Rattle.target_node.specs.Opening.{OpensAsNode, FailsToOpenNode};
 
 use crate::fault::NodeOpenFault;
@@ -24,6 +25,7 @@ impl<D: Disk> Node<D> {
         disk: D,
     ) -> Result<Node<D>, NodeOpenFault<D>>
         ensures ok { IfOk result (λ n. OpensAsNode cluster index (D.shown disk) (D.shown n.disk) n.state) }
+        ensures in_range { IfOk result (λ n. IsInRange n.state) }
         ensures settled { IfOk result (λ n. StaysSettled (D.shown disk) (D.shown n.disk)) }
         ensures err { IfErr result (λ e. FailsToOpenNode D.shown cluster index (D.shown disk) e) }
     {

@@ -46,7 +46,7 @@ size_of true =
     omega (arith, p, s, z)
 size_of false = let z = none_size in omega (arith, z)
 
-first_size : (index : ℕ) → length (image_text (first_objects index)) ≤ 80
+pub first_size : (index : ℕ) → length (image_text (first_objects index)) ≤ 80
 first_size index = let a = image_length (first_objects index) in let b = size_of (index == 0) in omega (arith, a, b)
 
 first_log : length (log_text empty_log) ≤ 32768

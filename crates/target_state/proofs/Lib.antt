@@ -7,3 +7,8 @@ pub mod Ids
 pub mod Cancelling
 pub mod Greatest
 pub mod Replying
+pub mod Mapped
+pub mod Stored
+pub mod Sounding
+pub mod Spelling
+pub mod Ranging

@@ -2,7 +2,8 @@
 
 ghost use Rattle.std.specs.Prelude.{◌≡◌, ◌≤◌, ◌++◌, length, IfOk, OnOk, OnErr, None};
 ghost use Rattle.state_image.specs.FrontText.{front_text};
-ghost use Rattle.target_state.specs.Image.{front_of, state_text, most_image};
+ghost use Rattle.state_image.specs.StateText.{FitsState};
+ghost use Rattle.target_state.specs.Image.{front_of, image_of, state_text, most_image, IsInRange};
 ghost use Rattle.target_state.specs.Rules.{renewed};
 ghost use Rattle.target_state.specs.Commit.{numbers_of, later, greatest_from, mark_of, other_mark, marks_from, listed, is_empty, packed, settled};
 
@@ -10,7 +11,7 @@ use crate::state::State;
 use crate::waiting::{Committed, Marks, Waiting};
 use fid_space::Numbers;
 use llog_store::lengths_of_logs;
-use state_image::FrontBytes;
+use state_image::{FrontBytes, a_log_stays_own_when_packed};
 use std::alloc::{AllocError as Memory, Global};
 
 /// The numbers of records.
@@ -106,11 +107,15 @@ impl State {
         ensures front { IfOk result (λ r. r.0 ≡ front_text (front_of self.old)) }
         ensures listed { IfOk result (λ r. r.1 ≡ listed self.old.index self.old.waiting) }
         ensures fits { OnOk result (length (state_text self.new) ≤ most_image) }
+        // It is read back, where the state is in range.
+        ensures image { OnOk result (IsInRange self.old → FitsState (image_of self.new)) }
         ensures err { OnErr result (self.new ≡ self.old) }
     {
         let listed = self.listed()?;
         self.thin()?;
         self.fits_a_disk();
+        self.has_an_image();
+        a_log_stays_own_when_packed();
         Ok((self.front.bytes(), listed))
     }
 

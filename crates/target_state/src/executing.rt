@@ -1,6 +1,7 @@
 //! What a record does.
 
 ghost use Rattle.std.specs.Prelude.{◌≡◌, ◌≤◌, ◌<◌, ◌+◌, ◌^◌, ◌++◌, length, map, IfOk, OnOk, OnErr, if◌then◌else◌};
+ghost use Rattle.byte_grammar.specs.Numbers.{IsBytes};
 ghost use Rattle.out_update.specs.declared.update.Update.{Update};
 ghost use Rattle.llog_store.specs.Log.{log_text};
 ghost use Rattle.llog_store.specs.Changes.{appended};
@@ -40,6 +41,16 @@ fn written(alloc: Global, updates: &[Update]) -> Result<Vec<Fid>, Memory>
     Ok(fids)
 }
 
+/// The bytes of a record.
+fn spelled(alloc: Global, entry: &Record) -> Result<Bytes, Memory>
+    requires { FitsRecord entry.now }
+    ensures { IfOk result (λ bytes. bytes ≡ record_text entry.now) }
+{
+    let mut payload = Bytes::new(alloc);
+    entry.encode(&mut payload)?;
+    Ok(payload)
+}
+
 /// Adds a record to a log, which has an index left for it.
 fn append(log: &mut Llog, payload: &[u8]) -> Result<(), Memory>
     requires short { length payload.now ≤ 24576 }
@@ -47,6 +58,7 @@ fn append(log: &mut Llog, payload: &[u8]) -> Result<(), Memory>
     ensures ok { OnOk result (log.new ≡ appended log.old payload.now) }
     ensures grows { OnOk result (length (log_text log.new) ≤ length (log_text log.old) + 49240) }
     ensures err { OnErr result (log.new ≡ log.old) }
+    ensures bytes { IsBytes payload.now }
 {
     let _next = log.next();
     lengths_of_logs();
@@ -111,8 +123,7 @@ impl State {
         requires transno { self.old.transno ≤ 2 ^ 63 }
         ensures { OnOk result (self.new ≡ done self.old entry.now) }
     {
-        let mut payload = Bytes::new(self.alloc);
-        entry.encode(&mut payload)?;
+        let payload = spelled(self.alloc, entry)?;
         let none = Objects::new(self.alloc, self.front.cluster, 1)?;
         append(&mut self.log, payload.bytes())?;
         let mut objects = mem::replace(&mut self.objects, none);

@@ -1,10 +1,10 @@
 //! The state that a target knows again from its image.
 
-ghost use Rattle.std.specs.Prelude.{◌≡◌, ◌≤◌, length, Ok};
+ghost use Rattle.std.specs.Prelude.{◌≡◌, ◌≤◌, length, Ok, IfOk};
 ghost use Rattle.object_store.specs.ImageReading.{Gives};
 ghost use Rattle.state_image.specs.StateText.{FitsState};
 ghost use Rattle.target_state.specs.State.{TargetState};
-ghost use Rattle.target_state.specs.Image.{image_of, state_text, most_image, IsBounded};
+ghost use Rattle.target_state.specs.Image.{image_of, state_text, most_image, IsBounded, HaveImage, IsInRange};
 ghost use Rattle.target_state.specs.Opening.{restored, state_in, reopened};
 
 use crate::state::State;
@@ -17,7 +17,8 @@ use std::alloc::Global;
 
 /// The state of an image that fits a disk.
 fn restored(alloc: Global, image: Image) -> State
-    requires { IsBounded image.front.seats image.objects image.log }
+    requires bounded { IsBounded image.front.seats image.objects image.log }
+    requires parts { HaveImage image.front.seats image.objects }
     ensures { result ≡ restored image }
 {
     let Image {
@@ -48,7 +49,8 @@ impl State {
         bytes: &[u8],
     ) -> Result<State, ImageFault>
         requires { length bytes.now ≤ most_image }
-        ensures { Gives (λ s. s) result (state_in cluster index bytes.now) }
+        ensures value { Gives (λ s. s) result (state_in cluster index bytes.now) }
+        ensures in_range { IfOk result IsInRange }
     {
         let _targets = cluster.targets();
         a_state_was_written_so();

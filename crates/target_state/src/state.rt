@@ -1,7 +1,8 @@
 ghost use Rattle.std.specs.Prelude.{◌≡◌, ◌≤◌, ◌<◌, ◌^◌, length, IfOk};
 ghost use Rattle.llog_store.specs.Log.{log_text};
 ghost use Rattle.target_state.specs.State.{first_state};
-ghost use Rattle.target_state.specs.Image.{state_text, most_image};
+ghost use Rattle.state_image.specs.StateText.{FitsState};
+ghost use Rattle.target_state.specs.Image.{state_text, image_of, most_image, IsInRange};
 
 use crate::waiting::WaitingList;
 use commit_sharing::Pending;
@@ -29,7 +30,7 @@ pub struct State {
 
 impl Model for State {
     ghost use Rattle.target_state.specs.State.{TargetState};
-    ghost use Rattle.target_state.specs.Image.{IsBounded};
+    ghost use Rattle.target_state.specs.Image.{IsBounded, HaveImage};
     ghost use Rattle.std.specs.Prelude.{◌<◌, IfSome};
     ghost use Rattle.std.specs.Coded.{codes};
     ghost use Rattle.object_store.specs.Objects.{coded_objects};
@@ -41,7 +42,7 @@ impl Model for State {
 
     ghost view = { λ s. record { targets = s.front.cluster; index = s.front.index; epoch = s.front.epoch; transno = s.front.transno; clock = s.front.clock; next_batch = s.front.next_batch; mark = s.front.mark; seats = s.front.seats; objects = s.objects; log = s.log; waiting = s.waiting; writers = s.pending; holder = s.holder; ended = s.ended } };
 
-    ghost invariant = { λ s. IfSome s.holder (λ h. h.master < 16) × IsBounded s.front.seats s.objects s.log };
+    ghost invariant = { λ s. IfSome s.holder (λ h. h.master < 16) × IsBounded s.front.seats s.objects s.log × HaveImage s.front.seats s.objects };
 }
 
 impl State {
@@ -88,6 +89,25 @@ impl State {
     {
         let _size = self.front.size();
     }
+
+    /// It has an image that is read back, where its numbers are in their ranges and its log is its own. The
+    /// call does nothing: its contract is a law.
+    pub fn has_an_image(&self)
+        ensures { IsInRange self.now → FitsState (image_of self.now) }
+    {
+        let _targets = self.front.cluster.targets();
+        let _index = byte(self.front.index);
+        let _seats = self.front.seats.items();
+        let _next = self.log.next();
+    }
+}
+
+/// The number of a byte.
+fn byte(n: u8) -> u8
+    ensures value { result ≡ n }
+    ensures small { result < 2 ^ 8 }
+{
+    n
 }
 
 /// How many bytes a log has.

@@ -1,11 +1,11 @@
-ghost use Rattle.std.specs.Prelude.{◌≡◌, ◌≤◌, ◌<◌, ◌+◌, ◌^◌, ◌&&◌, ℕ, All, length, drop, get_or, nat_lt};
+ghost use Rattle.std.specs.Prelude.{◌≡◌, ◌≤◌, ◌<◌, ◌+◌, ◌^◌, ◌&&◌, ℕ, All, length, drop, get_or, nat_lt, is_none};
 ghost use Rattle.fid_space.specs.Targets.{is_member};
 ghost use Rattle.update_coordinator.specs.Marks.{is_everywhere, is_stable, mark_from, noted, between_from, waits_at, is_awaited, is_owed};
 
 use crate::coordinator::Coordinator;
 use crate::course::ALL;
 use crate::words::Waits;
-use fid_space::Targets;
+use fid_space::{Cluster, Targets};
 
 fn lacks(stable: &[u64; 16], target: u8, batch: u64, on: Targets) -> bool
     requires { target < 16 }
@@ -109,6 +109,27 @@ impl Coordinator {
         ensures { result ≡ between_from self.now.batches 0 from to 0 }
     {
         between(self.batches.as_slice(), from, to)
+    }
+
+    /// The cluster.
+    pub fn cluster(&self) -> Cluster
+        ensures { result ≡ self.now.targets }
+    {
+        self.cluster
+    }
+
+    /// The target that it is the home at.
+    pub fn master(&self) -> u8
+        ensures { result ≡ self.now.master }
+    {
+        self.master
+    }
+
+    /// Whether no attempt is under way.
+    pub fn is_idle(&self) -> bool
+        ensures { result ≡ is_none self.now.current }
+    {
+        self.current.is_none()
     }
 
     /// The epoch.

@@ -1,5 +1,5 @@
 -- That an image fits a disk.
-use Rattle.std.proofs.Common.{◌≡◌, ℕ, ◌+◌, ◌*◌, ◌≤◌, ◌==◌, Bool, true, false, if◌then◌else◌, List, [], ◌∷◌, length, set, zero, suc, get_or, Option, Some, None, refl, ap, arith, length-append}
+use Rattle.std.proofs.Common.{◌≡◌, ℕ, ◌+◌, ◌*◌, ◌≤◌, ◌==◌, ◌⊎◌, inl, inr, Bool, true, false, if◌then◌else◌, List, [], ◌∷◌, length, set, zero, suc, get_or, Option, Some, None, refl, sym, ap, subst, arith, length-append}
 use Rattle.std.specs.FinMap.{insert, empty}
 use Rattle.llog_store.specs.Bitmap.{bitmap}
 use Rattle.llog_store.specs.Log.{Log, log_text, records_text, header_text, empty_log, is_live, live_count}
@@ -86,6 +86,14 @@ cleared_bounded seats m old new is before =
     let b = first_log in
     let c = header_least old in
     omega (arith, a, b, c, before)
+
+-- want of memory leaves the log as it is, or empty
+pub left_bounded : (seats : List (Option Seat)) (m : ObjectMap) (old new : Log) → (new ≡ old) ⊎ (new ≡ empty_log) → IsBounded seats m old → IsBounded seats m new
+left_bounded seats m old new left before =
+    elim left [
+      | inl same ↦ subst (λ (l : Log). IsBounded seats m l) (sym same) before
+      | inr none ↦ cleared_bounded seats m old new none before
+    ]
 
 -- as it was read
 

@@ -5,7 +5,10 @@ pub mod Listing
 pub mod Bounds
 pub mod Ids
 pub mod Cancelling
+pub mod Indexing
+pub mod Packing
 pub mod Greatest
+pub mod Backwards
 pub mod Replying
 pub mod Mapped
 pub mod Stored

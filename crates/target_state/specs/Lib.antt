@@ -4,4 +4,5 @@ pub mod Rules
 pub mod Commit
 pub mod Opening
 pub mod Marking
+pub mod Indexed
 pub mod Holding

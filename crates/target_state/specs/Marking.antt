@@ -1,5 +1,5 @@
 -- Which records a mark cancels, and up to which batch a target is told that those of a master are committed.
-use Rattle.std.specs.Prelude.{◌≡◌, ◌<◌, ◌≤◌, Contains, ℕ, zero, suc, ◌+◌, Bool, false, nat_le, nat_lt, ◌==◌, ◌&&◌, ◌||◌, if◌then◌else◌, List, [], ◌∷◌, ◌++◌, map, length, take, drop, set, get_or, max, Option, Some, None}
+use Rattle.std.specs.Prelude.{◌≡◌, ◌<◌, ◌≤◌, Contains, ℕ, zero, suc, ◌+◌, Bool, false, nat_le, nat_lt, ◌==◌, ◌&&◌, ◌||◌, if◌then◌else◌, List, [], ◌∷◌, ◌++◌, map, length, take, drop, max, Option, Some, None}
 use Rattle.std.specs.List.{AllByRecursion}
 use Rattle.std.specs.Int.{w32, w64}
 use Rattle.byte_grammar.specs.Numbers.{worth}
@@ -35,13 +35,6 @@ cancelled s master mark = record s { log = cancelled_log master mark s.log }
 abbrev pub marked : TargetState → ℕ → TargetState
 marked s mark = cancelled (record s { mark = max s.mark mark }) s.index (max s.mark mark)
 
--- what is left to do from an index on
-abbrev pub without_done_from : ℕ → ℕ → ℕ → Entry → Entry
-without_done_from from master mark e = if nat_le from e.index then without_done master mark e else e
-
-unfoldable pub cancelled_from : ℕ → ℕ → ℕ → Log → Log
-cancelled_from from master mark log = record { next = log.next; entries = map (without_done_from from master mark) log.entries }
-
 -- ---- what is committed
 
 -- a record with this master and batch waits to be committed
@@ -72,22 +65,6 @@ IsGreatest master ids (Some most) = Contains ids (master, most) × AllByRecursio
 unfoldable pub greatest_batches : ℕ → ℕ → List (ℕ × ℕ) → List (ℕ × ℕ)
 greatest_batches zero master ids = []
 greatest_batches (suc n) master ids = mark_of master (greatest_batch master None ids) ++ greatest_batches n (master + 1) ids
-
--- ---- the greatest batches in a table, one place for each master
-
-abbrev pub raised : List (Option ℕ) → ℕ → ℕ → List (Option ℕ)
-raised table master batch = if nat_lt master 16 then set table master (Some (later (get_or table master None) batch)) else table
-
-abbrev pub noted : List (Option ℕ) → List Waiting → Option (ℕ × ℕ) → List (Option ℕ)
-noted table ws None = table
-noted table ws (Some id) = if waits ws id.0 id.1 then table else raised table id.0 id.1
-
-abbrev pub AreGreatest : List (Option ℕ) → List (ℕ × ℕ) → Type 0
-AreGreatest table ids = (master : ℕ) → master < 16 → get_or table master None ≡ greatest_batch master None ids
-
-abbrev pub told : ℕ → ℕ → List (Option ℕ) → List (ℕ × ℕ)
-told zero master table = []
-told (suc n) master table = mark_of master (get_or table master None) ++ told n (master + 1) table
 
 -- the masters of the live records that are committed, by their numbers, each with the greatest batch of these
 abbrev pub stable_marks : TargetState → List (ℕ × ℕ)

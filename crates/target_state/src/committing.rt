@@ -26,7 +26,7 @@ fn numbers(alloc: Global, items: &[Waiting]) -> Result<Numbers, Memory>
 }
 
 /// The greater of two batches.
-pub(crate) fn later(most: Option<u64>, batch: u64) -> u64
+fn later(most: Option<u64>, batch: u64) -> u64
     ensures { result ≡ later most batch }
 {
     match most {
@@ -90,9 +90,9 @@ impl State {
         ensures ok { OnOk result (self.new ≡ packed self.old) }
         ensures err { OnErr result (self.new ≡ self.old) }
     {
-        let live = u64::from(self.log.live());
-        let records = u64::from(self.log.records());
-        let _next = self.log.next();
+        let live = u64::from(self.log.log().live());
+        let records = u64::from(self.log.log().records());
+        let _next = self.log.log().next();
         lengths_of_logs();
         if live < records && 2 * live <= records {
             self.log.pack()?;

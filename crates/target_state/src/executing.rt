@@ -1,9 +1,9 @@
 //! What a record does.
 
-ghost use Rattle.std.specs.Prelude.{◌≡◌, ◌≤◌, ◌<◌, ◌+◌, ◌^◌, ◌++◌, length, map, IfOk, OnOk, OnErr, if◌then◌else◌};
+ghost use Rattle.std.specs.Prelude.{◌≡◌, ◌≤◌, ◌<◌, ◌+◌, ◌^◌, ◌++◌, ◌⊎◌, length, map, IfOk, OnOk, OnErr, if◌then◌else◌};
 ghost use Rattle.byte_grammar.specs.Numbers.{IsBytes};
 ghost use Rattle.out_update.specs.declared.update.Update.{Update};
-ghost use Rattle.llog_store.specs.Log.{log_text};
+ghost use Rattle.llog_store.specs.Log.{log_text, empty_log};
 ghost use Rattle.llog_store.specs.Changes.{appended};
 ghost use Rattle.object_store.specs.ImageText.{image_text};
 ghost use Rattle.object_store.specs.Meaning.{after_all};
@@ -13,10 +13,11 @@ ghost use Rattle.target_state.specs.Image.{state_text, most_load};
 
 use crate::answers::ExecuteAnswer;
 use crate::holding::is_held_by;
+use crate::indexed::IndexedLog;
 use crate::state::State;
 use crate::waiting::Waiting;
 use fid_space::{Bytes, Fid};
-use llog_store::{AppendFault, Llog, lengths_of_logs};
+use llog_store::{AppendFault, lengths_of_logs};
 use object_store::{Objects, an_image_grows_at_most_as_its_updates_are_long};
 use out_update::Update;
 use state_image::Front;
@@ -51,16 +52,16 @@ fn spelled(alloc: Global, entry: &Record) -> Result<Bytes, Memory>
     Ok(payload)
 }
 
-/// Adds a record to a log, which has an index left for it.
-fn append(log: &mut Llog, payload: &[u8]) -> Result<(), Memory>
+/// Adds a record to a log, which has an index left for it. Want of memory leaves the log as it is, or empty.
+fn append(log: &mut IndexedLog, payload: &[u8]) -> Result<(), Memory>
     requires short { length payload.now ≤ 24576 }
     requires next { log.old.next ≤ most_redo_next }
     ensures ok { OnOk result (log.new ≡ appended log.old payload.now) }
     ensures grows { OnOk result (length (log_text log.new) ≤ length (log_text log.old) + 49240) }
-    ensures err { OnErr result (log.new ≡ log.old) }
+    ensures err { OnErr result ((log.new ≡ log.old) ⊎ (log.new ≡ empty_log)) }
     ensures bytes { IsBytes payload.now }
 {
-    let _next = log.next();
+    let _next = log.log().next();
     lengths_of_logs();
     match log.append(payload) {
         Ok(_) => Ok(()),
@@ -153,7 +154,7 @@ impl State {
         if !is_held_by(self.holder, by) {
             return Ok(ExecuteAnswer::Ended);
         }
-        let _next = self.log.next();
+        let _next = self.log.log().next();
         lengths_of_logs();
         self.carry_out(entry)?;
         self.front.clock = entry.stamp;
@@ -169,7 +170,7 @@ impl State {
         requires transno { self.old.transno ≤ 2 ^ 63 }
         ensures { OnOk result (self.new ≡ after_redo self.old entry.now) }
     {
-        if self.load() > MOST_REDO_LOAD || self.log.next() > MOST_REDO_NEXT {
+        if self.load() > MOST_REDO_LOAD || self.log.log().next() > MOST_REDO_NEXT {
             return Ok(());
         }
         self.carry_out(entry)

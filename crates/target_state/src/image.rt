@@ -51,7 +51,7 @@ impl State {
     pub fn log_head(&self) -> [u8; 8]
         ensures { result ≡ word w32 (length (log_text self.now.log)) ++ zeros 4 }
     {
-        head(log_length(&self.log) as u32)
+        head(log_length(self.log.log()) as u32)
     }
 
     /// What stands before the objects in the image. It takes no memory.
@@ -72,7 +72,7 @@ impl State {
         self.front.encode(&mut image)?;
         self.objects.encode(&mut image)?;
         image.append(&self.log_head())?;
-        add_log(&mut image, &self.log)?;
+        add_log(&mut image, self.log.log())?;
         self.fits_a_disk();
         Ok(image)
     }

@@ -11,6 +11,8 @@ mod committing;
 mod executing;
 mod holding;
 mod image;
+mod indexed;
+mod latest;
 mod marking;
 mod opening;
 mod payload;

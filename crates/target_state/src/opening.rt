@@ -7,35 +7,36 @@ ghost use Rattle.target_state.specs.State.{TargetState};
 ghost use Rattle.target_state.specs.Image.{image_of, state_text, most_image, IsBounded, HaveImage, IsInRange};
 ghost use Rattle.target_state.specs.Opening.{restored, state_in, reopened};
 
+use crate::indexed::IndexedLog;
 use crate::state::State;
 use crate::waiting::WaitingList;
 use commit_sharing::Pending;
 use fid_space::Cluster;
 use object_store::ImageFault;
 use state_image::{Image, a_state_is_read_back, a_state_was_written_so};
-use std::alloc::Global;
+use std::alloc::{AllocError as Memory, Global};
 
 /// The state of an image that fits a disk.
-fn restored(alloc: Global, image: Image) -> State
+fn restored(alloc: Global, image: Image) -> Result<State, Memory>
     requires bounded { IsBounded image.front.seats image.objects image.log }
     requires parts { HaveImage image.front.seats image.objects }
-    ensures { result ≡ restored image }
+    ensures { IfOk result (λ s. s ≡ restored image) }
 {
     let Image {
         front,
         objects,
         log,
     } = image;
-    State {
+    Ok(State {
         alloc,
         front,
         objects,
-        log,
+        log: IndexedLog::of(alloc, log)?,
         waiting: WaitingList::new(alloc),
         pending: Pending::new(alloc),
         holder: None,
         ended: [0; 16],
-    }
+    })
 }
 
 impl State {
@@ -55,7 +56,7 @@ impl State {
         let _targets = cluster.targets();
         a_state_was_written_so();
         match Image::read(alloc, cluster, index, bytes) {
-            Ok(image) => Ok(restored(alloc, image)),
+            Ok(image) => Ok(restored(alloc, image)?),
             Err(fault) => Err(fault),
         }
     }

@@ -4,6 +4,7 @@ ghost use Rattle.target_state.specs.State.{first_state};
 ghost use Rattle.state_image.specs.StateText.{FitsState};
 ghost use Rattle.target_state.specs.Image.{state_text, image_of, most_image, IsInRange};
 
+use crate::indexed::IndexedLog;
 use crate::waiting::WaitingList;
 use commit_sharing::Pending;
 use fid_space::Cluster;
@@ -21,7 +22,7 @@ pub struct State {
     pub(crate) alloc: Global,
     pub(crate) front: Front,
     pub(crate) objects: Objects,
-    pub(crate) log: Llog,
+    pub(crate) log: IndexedLog,
     pub(crate) waiting: WaitingList,
     pub(crate) pending: Pending,
     pub(crate) holder: Option<Attempt>,
@@ -64,7 +65,7 @@ impl State {
             alloc,
             front,
             objects: Objects::new(alloc, cluster, index)?,
-            log: Llog::new(alloc)?,
+            log: IndexedLog::new(alloc)?,
             waiting: WaitingList::new(alloc),
             pending: Pending::new(alloc),
             holder: None,
@@ -79,7 +80,7 @@ impl State {
         ensures fits { result ≤ most_image }
     {
         self.fits_a_disk();
-        u64::from(self.front.size()) + self.objects.size() + 8 + log_length(&self.log)
+        u64::from(self.front.size()) + self.objects.size() + 8 + log_length(self.log.log())
     }
 
     /// Its image fits a disk, whatever was executed. The call does nothing: its contract is a law.
@@ -98,7 +99,7 @@ impl State {
         let _targets = self.front.cluster.targets();
         let _index = byte(self.front.index);
         let _seats = self.front.seats.items();
-        let _next = self.log.next();
+        let _next = self.log.log().next();
     }
 }
 

@@ -69,14 +69,14 @@ impl State {
     pub fn log(&self) -> &Llog
         ensures { result.now ≡ self.now.log }
     {
-        &self.log
+        self.log.log()
     }
 
     /// The first live record of the log at or after an index, with its index.
     pub fn live(&self, from: u32) -> Option<(u32, &[u8])>
         ensures { option_map (λ x. (x.0, x.1.now)) result ≡ first_live from self.now.log.entries }
     {
-        self.log.walk(from)
+        self.log.log().walk(from)
     }
 
     /// Forgets who holds it, and which attempts ended.

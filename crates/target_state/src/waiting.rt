@@ -1,4 +1,5 @@
 ghost use Rattle.std.specs.Prelude.{◌≡◌, ◌++◌, ◌∷◌, [], length, slice_get, OnOk, OnErr};
+ghost use Rattle.target_state.specs.Marking.{waits};
 
 use fid_space::Numbers;
 use std::alloc::{AllocError as Memory, AllocFailed, Global};
@@ -13,6 +14,18 @@ pub struct Waiting {
     pub master: u8,
     /// Its batch there.
     pub batch: u64,
+}
+
+/// Whether a record with this master and batch waits to be committed.
+pub(crate) fn waits(waiting: &[Waiting], master: u32, batch: u64) -> bool
+    ensures { result ≡ waits waiting.now master batch }
+{
+    for item in waiting {
+        if u32::from(item.master) == master && item.batch == batch {
+            return true;
+        }
+    }
+    false
 }
 
 /// Those records, in the order in which they were executed.

@@ -1,6 +1,7 @@
 use Rattle.std.proofs.Common.{ℕ, subst, Err}
 use Rattle.llog_store.specs.declared.append.AppendFault.{AppendFault}
 use Rattle.llog_store.specs.declared.append.AppendFault.TheVariants as fault
+use Rattle.llog_store.specs.Log.{Log, IsLog}
 use Rattle.llog_store.specs.Kept.{append_fault, Refuses}
 use Rattle.target_state.proofs.Appending.{no_fault, index_left, grows_most}
 use Rattle.target_state.proofs.executing.append.Goals as goal
@@ -25,4 +26,5 @@ pub returns-in-Ok-clause-grows : goal.returns-in-Ok-clause-grows
 returns-in-Ok-clause-grows c =
     let log = c.args.log.now in
     let payload = c.args.payload.now in
-    grows_most c.append.new.self log payload c.requires.short c.in-Ok.ensures.ok (c.lengths_of_logs.ensures.grows log payload c.next-next.ensures.is_log c.requires.short)
+    let is = subst (λ (l : Log). IsLog l) c.log.ensures c.next-next.ensures.is_log in
+    grows_most c.append.new.self log payload c.requires.short c.in-Ok.ensures.ok (c.lengths_of_logs.ensures.grows log payload is c.requires.short)

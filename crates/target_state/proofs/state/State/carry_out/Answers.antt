@@ -2,9 +2,12 @@ use Rattle.std.proofs.Common.{ap, sym, subst, ◌∙◌, List, ℕ}
 use Rattle.byte_grammar.specs.Numbers.{IsBytes}
 use Rattle.state_image.specs.declared.front.Front.{Front}
 use Rattle.target_state.specs.State.{TargetState}
-use Rattle.target_state.proofs.Bounds.{HasRoom, room_left, emptied_bounded, done_bounded, seated_bounded}
+use Rattle.target_state.proofs.Bounds.{HasRoom, room_left, left_bounded, emptied_bounded, done_bounded, seated_bounded}
 use Rattle.target_state.proofs.Spelling.{objects_gone, objects_done, seats_put}
 use Rattle.target_state.proofs.state.State.carry_out.Goals as goal
+
+pub invariant_of-self : goal.invariant_of-self
+invariant_of-self c = (c.self.invariant.0, left_bounded c.self.inside.front.seats c.self.inside.objects c.self.inside.log _ c.in_err-append.ensures.err c.self.invariant.1, c.self.invariant.2)
 
 pub invariant_of-self-in_err-written : goal.invariant_of-self-in_err-written
 invariant_of-self-in_err-written c =

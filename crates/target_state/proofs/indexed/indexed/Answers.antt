@@ -1,10 +1,10 @@
-use Rattle.std.proofs.Common.{refl, sym, arith}
+use Rattle.std.proofs.Common.{sym, arith}
 use Rattle.target_state.proofs.Cancelling.{log_rises, found}
-use Rattle.target_state.proofs.Greatest.{goes_on, begun, ended}
-use Rattle.target_state.proofs.marking.greatest.Goals as goal
+use Rattle.target_state.proofs.Indexing.{begun, goes_on, ended}
+use Rattle.target_state.proofs.indexed.indexed.Goals as goal
 
 pub loop-index-init : goal.loop-index-init
-loop-index-init c = begun _ c.args.waiting.now c.args.log.now c.next-next.ensures.is_log refl
+loop-index-init c = begun c.new-live.result c.args.log.now c.next-next.ensures.is_log c.new-live.ensures.empty
 
 pub overflow_add-from : goal.overflow_add-from
 overflow_add-from c =
@@ -24,7 +24,7 @@ loop-index-smaller c =
 
 pub loop-index-preserved : goal.loop-index-preserved
 loop-index-preserved c =
-    goes_on c.loop-index.greatest c.note.new.greatest c.args.waiting.now c.loop-index.from _ _ c.args.log.now c.next-next.ensures.is_log (sym c.in-Some.ensures) c.note.array_long c.note.ensures c.loop-index.invariant
+    goes_on c.loop-index.live c.note.new.live c.loop-index.from _ _ c.args.log.now c.next-next.ensures.is_log (sym c.in-Some.ensures) c.in_ok-note.ensures c.loop-index.invariant
 
 pub returns : goal.returns
-returns c = ended c.loop-index.greatest c.args.waiting.now c.loop-index.from c.args.log.now (sym c.in_default.ensures) c.loop-index.invariant
+returns c = ended c.loop-index.live c.loop-index.from c.args.log.now (sym c.in_default.ensures) c.loop-index.invariant

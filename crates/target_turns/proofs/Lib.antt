@@ -1,0 +1,12 @@
+pub mod Again
+pub mod Holders
+pub mod Joining
+pub mod Listing
+pub mod Logs
+pub mod Placed
+pub mod Posting
+pub mod Silent
+pub mod Starting
+pub mod Staying
+pub mod Walking
+pub mod Whole

@@ -1,0 +1,14 @@
+pub mod Target
+pub mod Marks
+pub mod Helping
+pub mod Home
+pub mod Turn
+pub mod Taking
+pub mod Touching
+pub mod Disks
+pub mod Commanded
+pub mod Showing
+pub mod Founding
+pub mod Seen
+pub mod Placing
+pub mod Stepping

@@ -1,0 +1,5 @@
+pub mod Values
+pub mod Agrees
+pub mod Runs
+pub mod Begins
+pub mod Attempting

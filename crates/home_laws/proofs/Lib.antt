@@ -1,0 +1,9 @@
+pub mod Moves
+pub mod Numbers
+pub mod Asks
+pub mod Given
+pub mod Orders
+pub mod Finishes
+pub mod Owed
+pub mod Begun
+pub mod Told

@@ -63,7 +63,7 @@ shown_on true from index e es next on r low rest =
     (ap (λ (n : ℕ). map payload (live_from n from (e ∷ es))) one
     ∙ (ap (λ (o : Option (ℕ × List ℕ)). map payload (then_live o (λ m. live_from (live_count es) m (e ∷ es)))) (first_is from e es on high)
     ∙ ap (λ (xs : List (List ℕ)). e.payload ∷ xs)
-      (ap (λ (xs : List (ℕ × List ℕ)). map payload xs) (past (live_count es) (e.index + 1) (e.index + 1) e es next r.1 (behind_it e)) ∙ rest (e.index + 1) (omega arith))))
+    (ap (λ (xs : List (ℕ × List ℕ)). map payload xs) (past (live_count es) (e.index + 1) (e.index + 1) e es next r.1 (behind_it e)) ∙ rest (e.index + 1) (omega arith))))
 shown_on false from index e es next off r low rest =
     subst (λ b. map payload (live_from ((if b then 1 else 0) + live_count es) from (e ∷ es)) ≡ (if b then e.payload ∷ live_payloads es else live_payloads es)) (sym off)
     (let same : 0 + live_count es ≡ live_count es = omega arith in

@@ -1,5 +1,5 @@
 -- An attempt asks another target to be held.
-use Rattle.std.proofs.Common.{◌≡◌, ◌≢◌, ◌<◌, ◌≤◌, ◌+◌, ◌⊎◌, inl, inr, ⊎_elim, length, ℕ, Bool, true, false, List, [], ◌∷◌, ◌++◌, map, set, Option, Some, None, refl, sym, ap, ◌∙◌, subst, arith}
+use Rattle.std.proofs.Common.{◌≡◌, ◌<◌, ◌≤◌, ◌+◌, inl, inr, ⊎_elim, length, ℕ, true, List, [], ◌∷◌, map, Option, Some, None, refl, sym, ap, ◌∙◌, subst, arith}
 use Rattle.std.proofs.lemmas.List.{length-set}
 use Rattle.out_update.specs.Spelling.{FitsRequest}
 use Rattle.out_update.specs.declared.update.Update.{Update}
@@ -10,7 +10,6 @@ use Rattle.update_record.specs.declared.message.MessageKind.{MessageKind}
 use Rattle.update_record.specs.declared.message.MessageKind.TheVariants as kind
 use Rattle.cluster_mail.specs.Answering.{attempt_of}
 use Rattle.cluster_mail.specs.Asking.{hold_message}
-use Rattle.cluster_mail.specs.Content.{Says}
 use Rattle.cluster_mail.specs.Mail.{Sent, fresh}
 use Rattle.cluster_mail.specs.declared.content.Content.{Content}
 use Rattle.cluster_mail.specs.declared.content.Content.TheVariants as content

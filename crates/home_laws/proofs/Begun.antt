@@ -1,5 +1,5 @@
 -- A request comes to its home, which begins an attempt.
-use Rattle.std.proofs.Common.{◌≡◌, ◌≢◌, ◌<◌, ◌≤◌, ◌+◌, ◌==◌, ◌⊎◌, inl, inr, ⊎_elim, suc, length, get_or, ltb, ℕ, Bool, true, false, true≢false, if◌then◌else◌, List, [], ◌∷◌, ◌++◌, Option, Some, None, refl, sym, ap, ◌∙◌, subst, arith}
+use Rattle.std.proofs.Common.{◌≡◌, ◌≢◌, ◌<◌, ◌≤◌, ◌+◌, ◌⊎◌, inl, inr, ⊎_elim, suc, length, get_or, ltb, ℕ, Bool, true, false, if◌then◌else◌, List, [], ◌∷◌, ◌++◌, Option, Some, None, refl, sym, ap, ◌∙◌, subst, arith}
 use Rattle.std.proofs.lemmas.Bool.{leb-true, ltb-false, ltb-true}
 use Rattle.std.proofs.lemmas.Bool.Decides.{eqb_tells}
 use Rattle.std.proofs.lemmas.List.{get_or-set_same, length-set}
@@ -14,12 +14,11 @@ use Rattle.reply_cache.specs.declared.seats.Judgement.TheVariants as judgement
 use Rattle.plan_base.specs.Planners.{step_after}
 use Rattle.update_record.specs.declared.message.Attempt.{Attempt as Name}
 use Rattle.target_state.specs.Image.{state_text}
-use Rattle.target_state.specs.Rules.{after_hold, held_as, is_past, taken, taken_at}
+use Rattle.target_state.specs.Rules.{after_hold, held_as, is_past, taken_at}
 use Rattle.target_state.specs.State.{TargetState}
-use Rattle.target_state.specs.declared.holding.Taking.{Taking}
 use Rattle.target_state.specs.declared.holding.Taking.TheVariants.{Comes, Ended}
 use Rattle.update_coordinator.specs.Coordinating.{Coordinating}
-use Rattle.update_coordinator.specs.Rules.{first_course, follows, resting, started, stepped}
+use Rattle.update_coordinator.specs.Rules.{first_course, follows, started, stepped}
 use Rattle.update_coordinator.specs.declared.words.Action.{Action}
 use Rattle.update_coordinator.specs.declared.words.Course.{Course}
 use Rattle.update_coordinator.specs.declared.words.Going.{Going}
@@ -39,14 +38,14 @@ use Rattle.turn_laws.specs.Agrees.{Agrees, Keeps, KeepsHome, KeepsNode}
 use Rattle.turn_laws.specs.Attempting.{begun, next_name}
 use Rattle.turn_laws.specs.Runs.{IsRun}
 use Rattle.turn_laws.proofs.Given.{holds_of}
-use Rattle.turn_laws.proofs.Points.{eqb_self, settles}
+use Rattle.turn_laws.proofs.Points.{eqb_self, settles, some_name}
 use Rattle.turn_laws.proofs.HoldComes.{free_is}
 use Rattle.turn_laws.proofs.Requests.{still_carried, still_item, still_keeps}
 use Rattle.turn_laws.proofs.Sends.{run_append}
-use Rattle.turn_laws.proofs.Then.{after_both, run_then}
+use Rattle.turn_laws.proofs.Then.{run_then}
 use Rattle.home_laws.specs.Asking.{AreNumbered, AsksOrEnds}
-use Rattle.home_laws.proofs.Finishes.{goes_numbers, goes_so}
-use Rattle.home_laws.proofs.Given.{stays_numbered}
+use Rattle.home_laws.proofs.Finishes.{goes_so}
+use Rattle.home_laws.proofs.Given.{gives_more}
 use Rattle.home_laws.proofs.Moves.{Moves, by_step, same_attempts}
 
 -- a number that is new is above the seat
@@ -99,10 +98,12 @@ here_ask w who = ap (λ b. record (slice w who.master) {
 module _ (σ : Setting) (old : History) (c : Cluster) (w : World) (reached : Reached σ.targets old w) (g : Agrees σ.targets c w) (numbered : AreNumbered c) (to : ℕ) (inside : to < length c.targets) (up : serves (target_at c.targets to) ≡ true)
     (r : Request) (sent : List Request) (unique : Unique sent) (more : (q : Request) → IsIn q g.sent → IsIn q sent) (known : IsIn r sent) (home : home_of σ.targets r.op ≡ Some to)
     (free : (target_at c.targets to).node.holder ≡ None) (client : r.client < length (target_at c.targets to).node.seats)
-    (new : is_read r.op ≡ false → judged (get_or (target_at c.targets to).node.seats r.client None) r.number ≡ judgement.New)
-    (later : get_or (target_at c.targets to).node.ended to 0 ≤ (target_at c.targets to).home.attempts) (f : Fate) where
+    (new : is_read r.op ≡ false → judged (get_or (target_at c.targets to).node.seats r.client None) r.number ≡ judgement.New) (f : Fate) where
   abbrev was : Target
   was = target_at c.targets to
+
+  later : get_or was.node.ended to 0 ≤ was.home.attempts
+  later = (numbered.notes to up).ended
 
   i : Invariant σ.targets w
   i = holds_of σ old w reached
@@ -195,7 +196,15 @@ module _ (σ : Setting) (old : History) (c : Cluster) (w : World) (reached : Rea
   now = holds_of σ old next (record { story = reached.story; start = reached.start; events = reached.events ++ Ask who ∷ []; run = run_append σ.targets reached.events (Ask who ∷ []) (fresh reached.start old) w next reached.run (may_ask, refl) })
 
   numbered_then : AreNumbered then_there
-  numbered_then = stays_numbered c numbered to inside up turn refl (inl (omega arith)) (λ x h. absurd h)
+  numbered_then = gives_more c numbered to inside up turn (record {
+    same = λ s. refl;
+    next = λ s. inl (omega arith);
+    notes = λ s. record { held = λ by e m. ap_attempt by e; ended = omega (arith, later) };
+    sent = λ x h. absurd h;
+  })
+    where
+      ap_attempt : (by : Name) → ◌≡◌ {A = Option Name} (Some (next_name was r)) (Some by) → by.attempt ≤ was.home.attempts + 1
+      ap_attempt by e = let z = ap (λ (y : Name). y.attempt) (some_name (next_name was r) by e) in omega (arith, z)
 
   abbrev there : Target
   there = target_at then_there.targets to
@@ -261,6 +270,18 @@ module _ (σ : Setting) (old : History) (c : Cluster) (w : World) (reached : Rea
   turn_is : walked_from (record was.node { holder = Some (next_name was r) }) (next_name was r) ≡ begins was r f
   turn_is = ap (λ n. walked_from n (next_name was r)) (sym held) ∙ ap (λ by. walked_from (after_hold was.node by) by) by_is
 
+  inside_then : to < length then_there.targets
+  inside_then = subst (λ n. to < n) (sym (length-set c.targets to turn.target)) inside
+
+  up_then : serves there ≡ true
+  up_then = ap serves there_is ∙ up
+
+  current_then : there.home.current ≡ Some first
+  current_then = ap (λ (t : Target). t.home.current) there_is
+
+  moves_then : Moves there.home r home_then action
+  moves_then = subst (λ (t : Target). Moves t.home r home_then action) (sym there_is) moves
+
   module _ (asks : AsksOrEnds σ.targets to (walks (holds_home was r).target (holds_home was r).action).action) where
     abbrev Ends : Target → Type 0
     Ends t = AsksOrEnds σ.targets to (walks (record t { home = home_then }) action).action
@@ -272,27 +293,7 @@ module _ (σ : Setting) (old : History) (c : Cluster) (w : World) (reached : Rea
     Two t = IsRun σ.targets next (goes_on (own_attempt t r.number) (record { target = record t { home = home_then }; action = action }) f).lines
         (after_turn then_there to (goes_on (own_attempt t r.number) (record { target = record t { home = home_then }; action = action }) f))
 
-    abbrev Numbered : Target → Type 0
-    Numbered t = AreNumbered (after_turn then_there to (goes_on (own_attempt t r.number) (record { target = record t { home = home_then }; action = action }) f))
-
-    inside_then : to < length then_there.targets
-    inside_then = subst (λ n. to < n) (sym (length-set c.targets to turn.target)) inside
-
-    up_then : serves there ≡ true
-    up_then = ap serves there_is ∙ up
-
-    current_then : there.home.current ≡ Some first
-    current_then = ap (λ (t : Target). t.home.current) there_is
-
-    moves_then : Moves there.home r home_then action
-    moves_then = subst (λ (t : Target). Moves t.home r home_then action) (sym there_is) moves
-
     pub begins_so : IsRun σ.targets w (begins was r f).lines (after_turn c to (begins was r f))
     begins_so = run_then σ.targets w c to turn (begins was r f) one
         (subst (λ (u : Turned). IsRun σ.targets next u.lines (after_turn then_there to u)) turn_is
         (subst Two there_is (goes_so σ then_there next now agrees numbered_then to inside_then up_then first current_then nothing_asked f home_then action moves_then asks_there)))
-
-    pub begins_numbers : AreNumbered (after_turn c to (begins was r f))
-    begins_numbers = subst AreNumbered (after_both c to turn (begins was r f))
-        (subst (λ (u : Turned). AreNumbered (after_turn then_there to u)) turn_is
-        (subst Numbered there_is (goes_numbers σ then_there next now agrees numbered_then to inside_then up_then first current_then nothing_asked f home_then action moves_then asks_there)))

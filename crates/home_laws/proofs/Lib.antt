@@ -2,8 +2,11 @@ pub mod Moves
 pub mod Numbers
 pub mod Asks
 pub mod Given
+pub mod Noting
 pub mod Orders
+pub mod Homes
 pub mod Finishes
 pub mod Owed
 pub mod Begun
 pub mod Told
+pub mod Takes

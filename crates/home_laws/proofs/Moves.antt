@@ -1,6 +1,5 @@
 -- What a coordinator leaves of an attempt that goes on, or is over without a record.
-use Rattle.std.proofs.Common.{◌≡◌, ◌≢◌, ◌+◌, ◌==◌, ◌&&◌, ℕ, zero, suc, Bool, true, false, true≢false, if◌then◌else◌, List, [], ◌∷◌, Option, Some, None, refl, sym, ap, ◌∙◌, subst}
-use Rattle.out_update.specs.declared.update.Update.{Update}
+use Rattle.std.proofs.Common.{◌≡◌, ◌≤◌, ◌+◌, ◌==◌, ◌&&◌, ℕ, zero, suc, Bool, true, false, true≢false, if◌then◌else◌, List, Option, Some, None, refl, sym, ap, ◌∙◌, subst, arith}
 use Rattle.tree_model.specs.declared.op.Request.{Request}
 use Rattle.striped_dir.specs.declared.plan.Decision.{Decision}
 use Rattle.striped_dir.specs.declared.plan.Need.{Need}
@@ -22,7 +21,7 @@ use Rattle.update_coordinator.specs.declared.words.Waits.TheVariants as waits
 use Rattle.update_coordinator.specs.Coordinating.{Coordinating}
 use Rattle.update_coordinator.specs.Rules.{Gone, accepts, ends, fact_for, first_result, follows, full, gives_up, heard, holds, looked, next_sync, on_down, on_fact, on_synced, resting, room_for, rooms, settles, stepped, synced_for, syncs, told, unheld}
 use Rattle.target_turns.specs.Target.{Target}
-use Rattle.target_turns.specs.Home.{Walked, hears, looks, step_at_home, then_walks, walked}
+use Rattle.target_turns.specs.Home.{Walked, hears, looks, then_walks, walked}
 use Rattle.home_laws.specs.Asking.{is_of_attempt}
 
 -- the last ask number, once this target is asked
@@ -35,12 +34,15 @@ GoesOn c r asks h = (g : Going) × (g.course.request ≡ r) × (h ≡ record c {
 abbrev pub IsOver : Coordinating → Coordinating → Type 0
 IsOver c h = (fs : List Flight) × (released : ℕ) × (h ≡ record c { current = None; flights = fs; released = released })
 
+abbrev pub IsTaken : Coordinating → Coordinating → Type 0
+IsTaken c h = (fs : List Flight) × (released : ℕ) × (batches : List ℕ) × (h ≡ record c { current = None; flights = fs; released = released; batches = batches })
+
 -- by what is to be done
 abbrev pub Moves : Coordinating → Request → Coordinating → Action → Type 0
 Moves c r h (actions.Ask n) = GoesOn c r (asks_after c n.target) h
 Moves c r h (actions.HoldOnly t) = GoesOn c r (asks_after c t) h
 Moves c r h (actions.Sync t writer) = GoesOn c r (asks_after c t) h
-Moves c r h (actions.Accept x) = h.attempts ≡ c.attempts
+Moves c r h (actions.Accept x) = IsTaken c h
 Moves c r h (actions.Answer v) = IsOver c h
 Moves c r h (actions.Busy m) = IsOver c h
 Moves c r h (actions.Full t load need) = IsOver c h
@@ -53,7 +55,7 @@ Moved c r x = Moves c r x.after x.action
 by_sync : (c : Coordinating) (r : Request) (k : Course) (d : Decision) (synced : ℕ) (x : Option (ℕ × ℕ)) → k.request ≡ r → Moved c r (syncs (resting c) k d synced x)
 unfolding syncs accepts
 by_sync c r k d synced (Some s) q = (record { course = k; waits = waits.Sync d synced s.0 s.1 }, q, refl)
-by_sync c r k d synced None q = refl
+by_sync c r k d synced None q = (_, _, _, refl)
 
 by_room : (c : Coordinating) (r : Request) (k : Course) (d : Decision) (synced : ℕ) (x : Option (ℕ × ℕ)) → k.request ≡ r → Moved c r (rooms (resting c) k d synced x)
 unfolding rooms
@@ -97,17 +99,80 @@ heard_moves c (events.Down t) g is of = same_gone c g.course.request _ _ (ap (λ
 heard_moves c (events.Executed t m) g is of = absurd (true≢false (sym of))
 heard_moves c (events.Released t m) g is of = absurd (true≢false (sym of))
 
+-- A step of the planner leaves nothing of the attempt that was under way.
+abbrev pub with_current : Coordinating → Option Going → Coordinating
+with_current c o = record c { current = o }
+
+module _ (c : Coordinating) (o : Option Going) (k : Course) (d : Decision) where
+  forgets_sync : (x : Option (ℕ × ℕ)) → syncs (with_current c o) k d 0 x ≡ syncs (with_current c None) k d 0 x
+  unfolding syncs accepts
+  forgets_sync (Some s) = refl
+  forgets_sync None = refl
+
+  forgets_room : (x : Option (ℕ × ℕ)) → rooms (with_current c o) k d 0 x ≡ rooms (with_current c None) k d 0 x
+  unfolding rooms
+  forgets_room (Some f) = refl
+  forgets_room None = forgets_sync (next_sync k.seen d.on 0)
+
+  forgets_hold : (x : Option ℕ) → holds (with_current c o) k d 0 x ≡ holds (with_current c None) k d 0 x
+  unfolding holds
+  forgets_hold (Some t) = refl
+  forgets_hold None = forgets_room (full (room_for k.request.op) k.held d.parts)
+
+  forgets_read : (b : Bool) → (if b then ends (with_current c o) k k.asked (actions.Answer d.reply) else settles (with_current c o) k d 0) ≡ (if b then ends (with_current c None) k k.asked (actions.Answer d.reply) else settles (with_current c None) k d 0)
+  forgets_read true = refl
+  forgets_read false = forgets_hold (unheld k.held d.parts)
+
+pub forgets : (c : Coordinating) (o : Option Going) (k : Course) (s : Step) → follows (with_current c o) k s ≡ follows (with_current c None) k s
+unfolding follows
+forgets c o k (steps.Need n) = refl
+forgets c o k (steps.Decided d) = forgets_read c o k d (reads k.request.op)
+
 -- none begins
 pub same_attempts : (c : Coordinating) (r : Request) (h : Coordinating) (a : Action) → Moves c r h a → h.attempts ≡ c.attempts
 same_attempts c r h (actions.Ask n) m = ap (λ (x : Coordinating). x.attempts) m.2
 same_attempts c r h (actions.HoldOnly t) m = ap (λ (x : Coordinating). x.attempts) m.2
 same_attempts c r h (actions.Sync t writer) m = ap (λ (x : Coordinating). x.attempts) m.2
-same_attempts c r h (actions.Accept x) m = m
+same_attempts c r h (actions.Accept x) m = ap (λ (x : Coordinating). x.attempts) m.3
 same_attempts c r h (actions.Answer v) m = ap (λ (x : Coordinating). x.attempts) m.2
 same_attempts c r h (actions.Busy k) m = ap (λ (x : Coordinating). x.attempts) m.2
 same_attempts c r h (actions.Full t load need) m = ap (λ (x : Coordinating). x.attempts) m.2
 same_attempts c r h (actions.Recovering t) m = ap (λ (x : Coordinating). x.attempts) m.2
 same_attempts c r h actions.Nothing m = ap (λ (x : Coordinating). x.attempts) m.2
+
+-- the last ask number doesn't fall, and an attempt that goes on is of the same request
+abbrev pub GoesFor : Coordinating → Request → Coordinating → Type 0
+GoesFor c r h = (h.master ≡ c.master) × (c.asks ≤ h.asks) × ((g : Going) → h.current ≡ Some g → g.course.request ≡ r)
+
+some_going : (g h : Going) → ◌≡◌ {A = Option Going} (Some g) (Some h) → g ≡ h
+some_going g h e = cc
+
+none_going : (h : Going) → ◌≡◌ {A = Option Going} None (Some h) → ⊥
+none_going h e = cc
+
+no_fall : (c : Coordinating) (t : ℕ) → c.asks ≤ asks_after c t
+no_fall c t = by_test (t == c.master)
+  where
+    by_test : (b : Bool) → c.asks ≤ (if b then c.asks else c.asks + 1)
+    by_test true = omega arith
+    by_test false = omega arith
+
+still_for : (c : Coordinating) (r : Request) (asks : ℕ) (h : Coordinating) → c.asks ≤ asks → GoesOn c r asks h → GoesFor c r h
+still_for c r asks h l m = subst (λ (h : Coordinating). GoesFor c r h) (sym m.2) (refl, l, λ g e. ap (λ (y : Going). y.course.request) (sym (some_going m.0 g e)) ∙ m.1)
+
+over_for : (c : Coordinating) (r : Request) (h : Coordinating) → IsOver c h → GoesFor c r h
+over_for c r h m = subst (λ (h : Coordinating). GoesFor c r h) (sym m.2) (refl, omega arith, λ g e. absurd (none_going g e))
+
+pub goes_for : (c : Coordinating) (r : Request) (h : Coordinating) (a : Action) → Moves c r h a → GoesFor c r h
+goes_for c r h (actions.Ask n) m = still_for c r (asks_after c n.target) h (no_fall c n.target) m
+goes_for c r h (actions.HoldOnly t) m = still_for c r (asks_after c t) h (no_fall c t) m
+goes_for c r h (actions.Sync t writer) m = still_for c r (asks_after c t) h (no_fall c t) m
+goes_for c r h (actions.Accept x) m = subst (λ (h : Coordinating). GoesFor c r h) (sym m.3) (refl, omega arith, λ g e. absurd (none_going g e))
+goes_for c r h (actions.Answer v) m = over_for c r h m
+goes_for c r h (actions.Busy k) m = over_for c r h m
+goes_for c r h (actions.Full t load need) m = over_for c r h m
+goes_for c r h (actions.Recovering t) m = over_for c r h m
+goes_for c r h actions.Nothing m = still_for c r c.asks h (omega arith) m
 
 -- STEPS AT HOME
 

@@ -1,5 +1,5 @@
 -- What was asked under a name, once an ask more is numbered.
-use Rattle.std.proofs.Common.{◌≡◌, ◌≤◌, ◌<◌, ◌+◌, ◌-◌, ◌==◌, zero, suc, length, get_or, ℕ, Bool, true, false, true≢false, if◌then◌else◌, List, [], ◌∷◌, Option, Some, None, refl, sym, ap, ◌∙◌, subst, arith}
+use Rattle.std.proofs.Common.{◌≡◌, ◌≤◌, ◌<◌, ◌+◌, ◌-◌, zero, suc, length, get_or, ℕ, Bool, true, false, if◌then◌else◌, List, [], ◌∷◌, Option, None, refl, sym, ap, ◌∙◌, subst, arith}
 use Rattle.out_update.specs.declared.update.Update.{Update}
 use Rattle.update_record.specs.declared.message.Attempt.{Attempt as Name}
 use Rattle.target_state.specs.Rules.{same_attempt}

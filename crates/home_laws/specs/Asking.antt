@@ -1,10 +1,12 @@
 -- How the asks of an attempt are numbered, and how far a home's own turn comes without a decision.
-use Rattle.std.specs.Prelude.{◌≡◌, ◌≢◌, ◌<◌, ◌≤◌, ◌⊎◌, ℕ, Bool, true, false, Some}
+use Rattle.std.specs.Prelude.{◌≡◌, ◌≢◌, ◌<◌, ◌≤◌, ◌⊎◌, ℕ, Bool, true, false, get_or, Some}
+use Rattle.update_record.specs.declared.message.Attempt.{Attempt}
 use Rattle.update_record.specs.declared.message.Message.{Message as Mail}
 use Rattle.update_record.specs.declared.message.MessageKind.{MessageKind}
 use Rattle.update_record.specs.declared.message.MessageKind.TheVariants as kind
 use Rattle.cluster_mail.specs.Mail.{Sent}
 use Rattle.plan_base.specs.Planners.{FitsNeed}
+use Rattle.target_state.specs.State.{TargetState}
 use Rattle.update_coordinator.specs.declared.words.Action.{Action}
 use Rattle.update_coordinator.specs.declared.words.Action.TheVariants as actions
 use Rattle.update_coordinator.specs.declared.words.Event.{Event}
@@ -23,7 +25,15 @@ is_ask kind.Hold = true
 is_ask kind.Sync = true
 is_ask _ = false
 
--- the answer to one
+-- an order of an attempt
+abbrev pub is_order : MessageKind → Bool
+is_order kind.Hold = true
+is_order kind.Sync = true
+is_order kind.Execute = true
+is_order kind.Release = true
+is_order _ = false
+
+-- the answer to an ask
 abbrev pub is_told : MessageKind → Bool
 is_told kind.Held = true
 is_told kind.HoldBusy = true
@@ -34,10 +44,19 @@ is_told _ = false
 abbrev pub WasGiven : Target → Mail → Type 0
 WasGiven t m = (m.attempt < t.home.attempts) ⊎ ((m.attempt ≡ t.home.attempts) × (m.ask ≤ t.home.asks) × ((g : Going) → t.home.current ≡ Some g → m.number ≡ g.course.request.number))
 
--- Each home that serves gave the numbers of the asks that were sent in its epoch, and of their answers.
+-- What a target with this number noted of attempts of its own is of no more than it began: the attempt that holds it,
+-- and the last one that ended.
+pub record NotesBegun (t attempts : ℕ) (s : TargetState) : Type 0 where
+  pub held : (by : Attempt) → s.holder ≡ Some by → by.master ≡ t → by.attempt ≤ attempts
+  pub ended : get_or s.ended t 0 ≤ attempts
+
+-- Each home that serves gave the numbers of the asks that were sent in its epoch, and of their answers; and it began
+-- each attempt that its orders and its own notes speak of.
 pub record AreNumbered (c : Cluster) : Type 0 where
   pub orders : (t : ℕ) → serves (target_at c.targets t) ≡ true → (m : Sent) → IsIn m c.sent → m.message.epoch ≡ (target_at c.targets t).node.epoch → m.message.from ≡ t → is_ask m.message.kind ≡ true → WasGiven (target_at c.targets t) m.message
   pub answers : (t : ℕ) → serves (target_at c.targets t) ≡ true → (m : Sent) → IsIn m c.sent → m.message.epoch ≡ (target_at c.targets t).node.epoch → m.message.to ≡ t → is_told m.message.kind ≡ true → WasGiven (target_at c.targets t) m.message
+  pub begun : (t : ℕ) → serves (target_at c.targets t) ≡ true → (m : Sent) → IsIn m c.sent → m.message.epoch ≡ (target_at c.targets t).node.epoch → m.message.from ≡ t → is_order m.message.kind ≡ true → m.message.attempt ≤ (target_at c.targets t).home.attempts
+  pub notes : (t : ℕ) → serves (target_at c.targets t) ≡ true → NotesBegun t (target_at c.targets t).home.attempts (target_at c.targets t).node
 
 -- ---- what a home hears, and does then
 
@@ -76,9 +95,11 @@ pub record IsOrder (m x : Mail) : Type 0 where
 pub record IsNumbered (c : Cluster) (to : ℕ) (v : Target) (x : Mail) : Type 0 where
   pub own : is_ask x.kind ≡ true → (x.from ≡ to) × WasGiven v x
   pub told : is_told x.kind ≡ true → (m : Sent) × IsIn m c.sent × IsOrder m.message x
+  pub begun : is_order x.kind ≡ true → (x.from ≡ to) × (x.attempt ≤ v.home.attempts)
 
 -- What a turn of this target gives, if the target serves after it, and what it sends.
 pub record GivesNumbers (c : Cluster) (to : ℕ) (u : Turned) : Type 0 where
   pub same : serves u.target ≡ true → u.target.node.epoch ≡ (target_at c.targets to).node.epoch
   pub next : serves u.target ≡ true → GoesOnFrom (target_at c.targets to) u.target
+  pub notes : serves u.target ≡ true → NotesBegun to u.target.home.attempts u.target.node
   pub sent : (x : Mail) → IsIn x u.sent → IsNumbered c to u.target x

@@ -1,9 +1,9 @@
-use Rattle.home_laws.proofs.Given.{stays_numbered}
-use Rattle.home_laws.proofs.Told.{holds_numbers}
+use Rattle.home_laws.proofs.Given.{gives_more, none_given, same_messages}
 use Rattle.home_laws.proofs.numbers_stay_given.Goals as goal
 
 pub returns : goal.returns
 returns call = record {
-  turn = λ c numbered to inside up u same next sent. stays_numbered c numbered to inside up u same next sent;
-  hold = λ c numbered to inside up m kept is_hold now k q. holds_numbers c numbered to inside up m kept is_hold now k q;
+  turn = λ c numbered to inside up u gives. gives_more c numbered to inside up u gives;
+  messages = λ c d numbered same back. same_messages c d numbered same back;
+  epoch = λ c old. none_given c old;
 }

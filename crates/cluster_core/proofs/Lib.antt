@@ -1,0 +1,9 @@
+pub mod Placed
+pub mod Reached
+pub mod Stepping
+pub mod Shown
+pub mod Ended
+pub mod Founded
+pub mod Seated
+pub mod Asked
+pub mod Delivered

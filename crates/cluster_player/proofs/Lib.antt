@@ -1,0 +1,4 @@
+pub mod Kept
+pub mod Growing
+pub mod Whole
+pub mod Lines

@@ -1,0 +1,24 @@
+use Rattle.std.proofs.Common.{ap, ◌∙◌, ◌++◌, map, subst}
+use Rattle.cluster_core.specs.Cluster.{disks_of}
+use Rattle.cluster_player.specs.Played.{Playing, disks_in}
+use Rattle.cluster_player.specs.Disks.{AreKept}
+use Rattle.cluster_player.proofs.Whole.{core_kept, keeps_whole, sent_below, went_well}
+use Rattle.cluster_player.proofs.player.Player.send.Goals as goal
+
+pub invariant_of-self : goal.invariant_of-self
+invariant_of-self g c =
+    let inside = c.self.inside in
+    let old = c.in-Some.core in
+    let new = c.send-done.new.core in
+    let failed = c.is_err-self-inside.ensures.value in
+    keeps_whole inside.cluster inside.requests c.send-done.new.requests inside.core old new (map g.D.Disk.shown inside.disks.items) inside.spent c.is_err-self-inside.result c.in-Some.is c.send-done.ensures.keeps c.self.invariant
+    (λ well. (let sends = went_well c.send-done.result c.is_err-self-inside.result failed well c.send-done.ensures.sends in
+    let notes = went_well c.send-done.result c.is_err-self-inside.result failed well c.send-done.ensures.notes in
+    sent_below inside.core old sends.0 c.args.request.now new.cluster inside.requests c.send-done.new.requests c.in-Some.is sends.2 notes
+    (c.self.invariant.sent (ap (λ (p : Playing). p.spent) c.self.view_is ∙ c.requires.going))))
+
+pub returns-clause-kept : goal.returns-clause-kept
+returns-clause-kept g c =
+    let new = c.send-done.new.core in
+    subst (λ (p : Playing). AreKept (disks_in p) (disks_of new.cluster.targets ++ new.spare)) c.self.view_is
+    (core_kept c.self.inside.core c.in-Some.core new (map g.D.Disk.shown c.self.inside.disks.items) c.in-Some.is c.send-done.ensures.keeps)
